@@ -92,7 +92,8 @@ impl Normaliser {
         }
     }
 
-    /// The normal form of a variable or a constant that is applied to arguments. Where a name stands for a term of the bank, that is applied.
+    /// The normal form of a variable or a constant that is applied to arguments. Where a name stands for a term of the bank, that is
+    /// applied.
     #[inline(never)]
     fn normal_leaf(
         &mut self,

@@ -9,8 +9,8 @@ use arrayvec::ArrayVec;
 use outside::{Failed, Sink};
 use std::marker::Model;
 
-/// Gathers bytes, and hands them on to a sink 16,384 at a time. What it holds at the end goes on by `flush` alone. It takes no memory but its
-/// own.
+/// Gathers bytes, and hands them on to a sink 16,384 at a time. What it holds at the end goes on by `flush` alone. It takes no memory but
+/// its own.
 #[derive(Drop)]
 pub struct BufferedSink<S: Sink> {
     sink: S,
@@ -63,7 +63,7 @@ impl<S: Sink> BufferedSink<S> {
         result
     }
 
-    /// Lets go of so many bytes from the front.
+    /// Drops so many bytes from the front.
     fn let_go(&mut self, done: usize)
         requires { done ≤ length self.old.held }
         ensures sink { self.new.sink ≡ self.old.sink }

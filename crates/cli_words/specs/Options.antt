@@ -1,5 +1,5 @@
--- The table of the program's options, in the order in which the usage line has them. Each takes one value. Behind them stands one option that
--- takes none.
+-- The table of the program's options that take one value, in the order in which the usage line has them. Behind them stands one option
+-- that takes none.
 use Rattle.std.specs.Prelude.{ℕ, List, [], ◌∷◌, codes}
 use Rattle.cli_words.specs.declared.options.OptionName.{OptionName}
 use Rattle.cli_words.specs.declared.options.OptionName.TheVariants.{Mode, Check, Demo, Models, Schedule, Tree, Strict}

@@ -2,7 +2,7 @@
 ghost use Rattle.std.specs.Prelude.{◌≡◌};
 ghost use Rattle.cli_words.specs.Options.{option_name};
 
-/// An option, which takes one value.
+/// An option that takes one value. `--same`, which takes none, isn't among them.
 #[derive(Clone, Copy, Debug, PartialEq, Eq)]
 pub(crate) enum OptionName {
     Mode,

@@ -10,8 +10,8 @@ comes_before a b = nat_lt a.due b.due || ((a.due == b.due) && nat_lt a.number b.
 abbrev pub IsBefore : {C : Type 0} → Entry C → Entry C → Type 0
 IsBefore a b = IsTrue (comes_before a b)
 
--- the rule; the entries in the order of their numbers, which is that of pushing; how many numbers were taken so far, one for each push; and for
--- how many entries there is room
+-- the rule; the entries in the order of their numbers, which is that of pushing; how many numbers were taken so far, one for each push; and
+-- for how many entries there is room
 pub record Queue (C R : Type 0) : Type 0 where
   pub rule : R
   pub entries : List (Entry C)

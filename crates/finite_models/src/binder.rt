@@ -98,8 +98,8 @@ fn whole(base: u32, entries: u32, body: Expr) -> Expr
     }
 }
 
-/// The table of a body, in this base and with this many entries. A body in which the variable doesn't occur is evaluated once, and a function
-/// whose entries the table has is taken for it.
+/// The table of a body, in this base and with this many entries. A body in which the variable doesn't occur is evaluated once, and a
+/// function whose entries the table has is taken for it.
 pub fn table_of(alloc: Global, base: u32, entries: u32, body: Expr) -> Result<Expr, AllocError>
     requires base { 1 ≤ base }
     requires entries { 1 ≤ entries }

@@ -143,7 +143,7 @@ number_found bytes digits s =
     ∙ ap (λ b. if b && is_ending (behind_spaces tail) then Some digits else None) s.decimal
     ∙ ap (λ b. if b then Some digits else None) is_tail.leaves
 
--- the parts into which bytes are split, one front after the other
+-- the parts into which bytes are split, one prefix after the other
 pub record IsSplit (bytes gap rest digits tail ending : List ℕ) : Type 0 where
   pub gap_is : gap ≡ front is_space bytes
   pub rest_is : rest ≡ behind_front is_space bytes

@@ -1,4 +1,4 @@
--- Bytes by lines and by fronts.
+-- Bytes by lines and by prefixes.
 use Rattle.std.specs.Prelude.{◌≡◌, ◌⊎◌, ℕ, ◌==◌, ◌||◌, Bool, List, [], ◌∷◌, ◌++◌}
 
 -- a space, a tab or a carriage return

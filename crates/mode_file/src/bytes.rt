@@ -1,4 +1,4 @@
-//! Bytes by lines and by fronts.
+//! Bytes by lines and by prefixes.
 ghost use Rattle.std.specs.Prelude.{◌≡◌, ◌<◌, ◌≤◌, [], ◌∷◌, length, IfSome, IfNone};
 ghost use Rattle.outside.specs.Lines.{lines_of};
 ghost use Rattle.outside.specs.Fronts.{front, behind_front};
@@ -29,14 +29,14 @@ impl ByteClass {
     }
 }
 
-/// A front of bytes, and what follows it.
+/// A prefix of bytes, and what follows it.
 #[derive(Clone, Copy, Drop)]
 pub struct Split<'a> {
     pub front: &'a [u8],
     pub rest: &'a [u8],
 }
 
-/// The longest front of bytes of a kind.
+/// The longest prefix whose bytes are all of a kind.
 pub(crate) fn split_front(class: ByteClass, bytes: &[u8]) -> Split<'_>
     ensures front { result.front.now ≡ front (is_in class) bytes.now }
     ensures rest { result.rest.now ≡ behind_front (is_in class) bytes.now }

@@ -18,7 +18,7 @@ module _ {S : Type 0} (At : ℕ → S → Type 0) (n : ℕ) (place : Option S) w
 there_now : {S : Type 0} (P : ℕ → S → Type 0) (n : ℕ) (run : S) (place : Option S) → place ≡ Some run → P n run → IsRunThere P n place
 there_now P n run place e h = record { run = run; place_is = e; holds = h }
 
--- a turn of the run at a place, which is let go where it leaves
+-- a turn of the run at a place, which is dropped where it leaves
 pub took_place : {S : Type 0} (At Left : ℕ → S → Type 0) (setting : Setting) (start : List Literal) (slice n : ℕ) (run : S) (place : Option S) (turned : Turned) (commands : ℕ)
     → TookTurn (λ k. At k run) (λ k. Left k run) setting start slice n turned commands
     → WhereLeft turned (place ≡ None) → WherePaused turned (place ≡ Some run) → WhereClosed turned (place ≡ Some run)

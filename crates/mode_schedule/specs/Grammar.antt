@@ -1,5 +1,5 @@
--- The grammar of schedules: lines that say nothing, and then blocks. A block is a line with its slice, and behind it the lines of a mode, up
--- to the next line of a slice.
+-- The grammar of schedules: lines that say nothing, and then blocks. A block is a line with its slice, and behind it the lines of a mode,
+-- up to the next line of a slice.
 use Rattle.std.specs.Prelude.{◌≡◌, ◌≢◌, ◌⊎◌, ℕ, ◌+◌, ◌<◌, ◌≤◌, Bool, true, false, List, [], ◌∷◌, ◌++◌, length, codes}
 use Rattle.std.specs.Str.{bytes_eq}
 use Rattle.mode_file.specs.declared.refused.ModeRefused.{ModeRefused}

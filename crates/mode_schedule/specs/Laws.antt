@@ -36,7 +36,8 @@ FirstCloses = (first second : Setting) (start : List Literal) → IsProved first
 abbrev pub FirstHasNoneLeft : Type 0
 FirstHasNoneLeft = (first second : Setting) (start : List Literal) → IsExhausted first start 1 → IsStopped second start 0 → ScheduleEnds (two_slots 1 first 1 second) start (empty 1)
 
--- .. and slices of 1, where both runs are proved: the second one's fourth turn finds it so after seven commands, four of them the first one's
+-- .. and slices of 1, where both runs are proved: the second one's fourth turn finds it so after seven commands, four of them the first
+-- one's
 abbrev pub SecondCloses : Type 0
 SecondCloses = (first second : Setting) (start : List Literal) → IsProved first start 9 → IsProved second start 3 → ScheduleEnds (two_slots 1 first 1 second) start (closed 1 7)
 

@@ -58,9 +58,9 @@ pub data End : Type 0 where
   limit : ℕ → End
 
 -- How a schedule ends that has come so far. The run whose turn is next looks before each command whether it is proved, has no command left,
--- or is at its limit, and carries out as many commands as its slice has at most. Where it is proved, the schedule is closed. Where it has no
--- command left or is at its limit, it leaves. Where it has carried out its slice, which it does without looking again, it waits for its next
--- turn.
+-- or is at its limit, and carries out as many commands as its slice has at most. Where it is proved, the schedule is closed. Where it has
+-- no command left or is at its limit, it leaves. Where it has carried out its slice, which it does without looking again, it waits for its
+-- next turn.
 pub data ScheduleEndsFrom (slots : List Slot) (start : List Literal) : Course → End → Type 0 where
   closes : (c : Course) (turn : Entry ℕ) (slot : Slot) (k : ℕ) → IsNextTurn slots c turn slot → k < slot.slice
       → IsProved slot.setting start (done_by c turn + k) → ScheduleEndsFrom slots start c (closed turn.command (c.total + k))

@@ -1,4 +1,4 @@
-//! Places of runs: each run is made when its first turn comes, and let go when it leaves.
+//! Places of runs: each run is made when its first turn comes, and dropped when it leaves.
 ghost use Rattle.std.specs.Prelude.{◌≡◌, ◌+◌, ◌<◌, ◌≤◌, ℕ, Some, None, length, slice_get, IfOk, IfSome, OnOk, IsSome};
 ghost use Rattle.mode_schedule.specs.Turns.{Slot};
 ghost use Rattle.mode_schedule.specs.Internal.Turning.{IsRunPlace, IsRunThere, TookTurn, TookPlace, WhereLeft, WherePaused, WhereClosed};

@@ -17,7 +17,7 @@ use std::alloc::{AllocError, Global};
 /// How many turns there can be at most.
 const MOST_TURNS: u32 = 16_000_017;
 
-/// Runs that take turns. A run is made when its first turn comes, and let go when it leaves.
+/// Runs that take turns. A run is made when its first turn comes, and dropped when it leaves.
 #[derive(Drop)]
 pub struct Schedule<R: Run, V: Weigher<Turn>> {
     pub runs: Vec<Option<R>>,

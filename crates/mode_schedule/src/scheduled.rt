@@ -24,8 +24,8 @@ use std::alloc::{AllocError, Global};
 use stt_core::Problem;
 use tableau_calculus::Refutation;
 
-/// How the schedule of blocks over a problem ends. Where it is closed, the refutation is that of the block's run. Blocks are counted from 0,
-/// and `total` is the number of the commands of all runs.
+/// How the schedule of blocks over a problem ends. Where it is closed, the refutation is that of the block's run. Blocks are counted from
+/// 0, and `total` is the number of the commands of all runs.
 #[derive(Drop)]
 pub enum Scheduled {
     Closed {
@@ -136,8 +136,8 @@ fn run_by<W: Weigher<Waiting> + Copy, V: Weigher<Turn>>(
     run_prepared(alloc, problem, &prepared, blocks, weighers, turns)
 }
 
-/// Runs the schedule of the blocks over a problem, whose definitions are unfolded. The problem's types nest so little that each refutation is
-/// small enough for a text.
+/// Runs the schedule of the blocks over a problem, whose definitions are unfolded. The problem's types nest so little that each refutation
+/// is small enough for a text.
 pub fn run_schedule(
     alloc: Global,
     problem: &Problem,

@@ -1,4 +1,5 @@
--- Replacing as it is said in words: where the variable is the head, its arguments are replaced first, and what replaces it is applied to them one after the other.
+-- Replacing as it is said in words: where the variable is the head, its arguments are replaced first, and what replaces it is applied to
+-- them one after the other.
 use Rattle.std.proofs.Common.{◌≡◌, ◌≢◌, ℕ, zero, suc, List, [], ◌∷◌, ◌++◌, map, length, refl, ap, ap₂, ◌∙◌}
 use Rattle.stt_core.specs.SimpleType.{SimpleType, base, arrow}
 use Rattle.stt_core.specs.Lambda.{Lambda, bound, constant, lam, app, applied}

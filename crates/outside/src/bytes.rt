@@ -11,7 +11,8 @@ use std::alloc::{AllocError, Global};
 use std::hash::{Hash, Hasher};
 use std::marker::Model;
 
-// A list of at most this many bytes takes no allocation. With more of them each node of a formula, which has room for a name, would be larger.
+// A list of at most this many bytes takes no allocation. With more of them each node of a formula, which has room for a name, would be
+// larger.
 const INLINE: usize = 16;
 
 /// A list of bytes that grows.

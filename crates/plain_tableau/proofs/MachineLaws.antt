@@ -55,7 +55,7 @@ added_begins b ls = let more = behind b ls in ap (take (length b)) more.1 ∙ ta
         go true rest = rest b
         go false rest = let r = rest (b ++ k ∷ []) in (k ∷ r.0, r.1 ∙ append_assoc b (k ∷ []) r.0)
 
--- the front of an open branch is open
+-- a prefix of an open branch is open
 front_open : (n : ℕ) (b c : List SatLit) → take n b ≡ c → is_closed_branch numbers b ≡ false → is_closed_branch numbers c ≡ false
 front_open n b c e h = go (is_closed_branch numbers c) refl
   where

@@ -71,8 +71,8 @@ pub fn tree_terms_are_small()
     ensures { TreeTermsAreSmall }
 {}
 
-/// So the refutation of a tree is small where the one that is rebuilt from the same log is. An instance that the log uses has a clause whose
-/// literals are small. Those of its alternatives that aren't in it are parts of the principals.
+/// So the refutation of a tree is small where the one that is rebuilt from the same log is. An instance that the log uses has a clause
+/// whose literals are small. Those of its alternatives that aren't in it are parts of the principals.
 pub fn trees_are_small(
     bank: &Bank,
     lits: &LitTable,

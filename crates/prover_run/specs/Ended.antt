@@ -40,9 +40,9 @@ pub record IsProvedBy (setting : Setting) (start : List Literal) (n : ℕ) (refu
   pub proved : IsProved setting start n
   pub refutes : RefutesFrom setting.scope start proved.state.clauses setting.mode.conflicts refutation
 
--- The run is proved after n commands, and the refutation is accepted for the start and small enough for a text. Each of its lines is reached
--- from the last one and comes from the clauses of the state after these commands. These are refuted within the conflicts of the mode, and
--- from the log of what was learned the refutation is rebuilt.
+-- The run is proved after n commands, and the refutation is accepted for the start and small enough for a text. Each of its lines is
+-- reached from the last one and comes from the clauses of the state after these commands. These are refuted within the conflicts of the
+-- mode, and from the log of what was learned the refutation is rebuilt.
 pub record IsRefuted (p : PlainProblem) (m : Mode) (n : ℕ) (refutation : Refutation) : Type 0 where
   pub proved : IsProved (setting_for p m) (start p) n
   pub accepted : IsAccepted (scope_of p.declared) (start p) refutation
@@ -65,8 +65,8 @@ pub record IsSpent (setting : Setting) (literals : List Literal) (conflicts : �
 abbrev pub HasEnoughConflicts : Setting → List Literal → Type 0
 HasEnoughConflicts setting literals = (n : ℕ) (state : State) → state_after setting literals n ≡ Some state → AreEnough setting.mode.conflicts state.clauses
 
--- How the run over the problem by the mode ends, of which a tree of at most so many nodes may be asked for. A tree begins with the literals of
--- the start that are shallow enough.
+-- How the run over the problem by the mode ends, of which a tree of at most so many nodes may be asked for. A tree begins with the literals
+-- of the start that are shallow enough.
 abbrev pub EndsAs : PlainProblem → Mode → Option ℕ → Ended → Type 0
 EndsAs p m nodes (Proved n refutation tree) =
     (refuted : IsRefuted p m n refutation) × IsTreeAsked (scope_of p.declared) (start p) (filter is_shallow_literal (start p)) refuted.shortly.input nodes tree

@@ -14,10 +14,10 @@ use Rattle.search_spec.specs.Each.{Each}
 use Rattle.search_spec.specs.Numbered.{literal_at, IsNumber, AreApart}
 use Rattle.search_spec.specs.Unsatisfiable.{Clause}
 
--- Clauses were learned over clauses of formulas. Clauses of numbered literals stand for these, where each number has an atom and no two have
--- the same one. What was learned holds no variable twice, no two of it are alike, and its literals occur in the clauses. It is implied, and
--- each was learned from the clauses that were there then: some first ones imply it, and it is new to unit propagation over these and what was
--- learned before it. That these first ones are the clauses of some state of the run isn't said.
+-- Clauses were learned over clauses of formulas. Clauses of numbered literals stand for these, where each number has an atom and no two
+-- have the same one. What was learned holds no variable twice, no two of it are alike, and its literals occur in the clauses. It is
+-- implied, and each was learned from the clauses that were there then: some first ones imply it, and it is new to unit propagation over
+-- these and what was learned before it. That these first ones are the clauses of some state of the run isn't said.
 pub record HasLearned (clauses : List Clause) : Type 0 where
   pub atoms : List Lambda
   pub apart : AreApart atoms

@@ -36,8 +36,8 @@ abbrev pub EachComesFrom : List Literal → List Clause → List Line → Type 0
 EachComesFrom start clauses lines = (l : Line) → Contains lines l → ComesFrom start clauses l
 
 -- A log of resolution chains (Robinson 1965) of what was learned over the clauses, from which the refutation is rebuilt. It is over the
--- numbered clauses, each of its results is its chain's, and the results are the learned clauses and then the empty one. There is at most one
--- line for each step of the results that are used and one for each clause that is. How many steps a chain has isn't said.
+-- numbered clauses, each of its results is its chain's, and the results are the learned clauses and then the empty one. There is at most
+-- one line for each step of the results that are used and one for each clause that is. How many steps a chain has isn't said.
 pub record AreRefutedShortly (clauses : List Clause) (learning : HasLearned clauses) (refutation : Refutation) : Type 0 where
   pub input : Input
   pub atoms : input.atoms ≡ learning.atoms

@@ -29,8 +29,8 @@ pub record AreUsedInstances (input : Input) (instances : List Instance) : Type 0
       → (u : UsesInstance input i) (v : UsesInstance input j) → u.number < v.number
 
 -- What comes of the instances that the log uses, from the branch of these literals: the refutation of a tree, the first branch that stays
--- open, or that there would be more nodes than these. A tree's refutation is accepted for the start, small enough for a text, and has no cut
--- and at most so many lines, each of which is reached from the last one.
+-- open, or that there would be more nodes than these. A tree's refutation is accepted for the start, small enough for a text, and has no
+-- cut and at most so many lines, each of which is reached from the last one.
 pub record IsTreeFor (scope : Scope) (start begin : List Literal) (input : Input) (limit : ℕ) (stripped : Stripped) : Type 0 where
   pub instances : List Instance
   pub used : AreUsedInstances input instances

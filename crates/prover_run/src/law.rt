@@ -1,8 +1,8 @@
 //! Laws of the definitions.
 ghost use Rattle.prover_run.specs.Laws.{EnoughIsNeverSpent, LearnedIsNotEmpty, OneUsedList, PropagatesWithoutConflict, RunPropagatesWithoutConflict, RunWithEnoughIsNeverSpent, SpentEndsEarlier, SpentEndsNoLater, SpentIsNotRefuted};
 
-/// Conflicts that are enough for all clauses over the atoms are never spent. So no run ends by its conflicts where the mode has enough for the
-/// clauses of each of its states.
+/// Conflicts that are enough for all clauses over the atoms are never spent. So no run ends by its conflicts where the mode has enough for
+/// the clauses of each of its states.
 pub fn enough_conflicts()
     ensures clauses { EnoughIsNeverSpent }
     ensures run { RunWithEnoughIsNeverSpent }
@@ -15,9 +15,9 @@ pub fn no_conflicts()
     ensures run { RunPropagatesWithoutConflict }
 {}
 
-/// What was learned where the conflicts are spent doesn't refute the clauses, nor does a part of it. So a run whose conflicts are spent ends no
-/// later than one that is proved, and earlier where this one learned nothing else. Two runs over one problem by one mode may learn different
-/// clauses, so that the one is spent in the state where the other is proved.
+/// What was learned where the conflicts are spent doesn't refute the clauses, nor does a part of it. So a run whose conflicts are spent
+/// ends no later than one that is proved, and earlier where this one learned nothing else. Two runs over one problem by one mode may learn
+/// different clauses, so that the one is spent in the state where the other is proved.
 pub fn spent_is_not_refuted()
     ensures clauses { SpentIsNotRefuted }
     ensures no_later { SpentEndsNoLater }

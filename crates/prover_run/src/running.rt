@@ -146,8 +146,8 @@ fn run_by<W: Weigher<Waiting>>(
     ended
 }
 
-/// Runs the search over a problem, whose definitions are unfolded, by a mode, and makes a tree without cut of at most so many nodes where one
-/// is asked for. The problem's types nest so little that each refutation is small enough for a text.
+/// Runs the search over a problem, whose definitions are unfolded, by a mode, and makes a tree without cut of at most so many nodes where
+/// one is asked for. The problem's types nest so little that each refutation is small enough for a text.
 pub fn run(
     alloc: Global,
     problem: &Problem,

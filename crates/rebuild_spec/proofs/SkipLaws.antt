@@ -95,8 +95,8 @@ module _ (Is : Tree → Type 0) where
       children i (leaf p ls rule kids) l h = tt
       children i (cut p v t u) l h = (child i t l h.0, child i u l h.1)
 
-  -- In a walk by tasks a line that is there already is passed over. The other steps are computations: for a cut its children are visited and
-  -- then itself is listed.
+  -- In a walk by tasks a line that is there already is passed over. The other steps are computations: for a cut its children are visited
+  -- and then itself is listed.
   pub run_passes : (one : (t u : Tree) → Is t → Is u → same_line t u ≡ true → t ≡ u) (done whole : List Tree) (t : Tree) (tasks : List Task) → IsOrdered Is whole → IsEach Is t → run done (visit t ∷ tasks) ≡ whole → list_any (same_line t) done ≡ true → run done tasks ≡ whole
   run_passes one done whole t tasks ordered is e there =
       let grown = run_grows (visit t ∷ tasks) done in

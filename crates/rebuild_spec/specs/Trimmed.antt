@@ -50,8 +50,8 @@ pub record IsFromClause (input : Input) (l : Line) : Type 0 where
   pub there : slice_get input.clauses number ≡ Some (clause_by clause instance)
   pub branch : l.branch ≡ literals_of input.atoms (map negated clause)
 
--- Where a line of this rule comes from. A cut's atom is one of the clauses'. Any other line closes two literals of the start, or is that of a
--- clause.
+-- Where a line of this rule comes from. A cut's atom is one of the clauses'. Any other line closes two literals of the start, or is that of
+-- a clause.
 abbrev pub IsFromSearchBy : RuleUse → List Literal → Input → Line → Type 0
 IsFromSearchBy (Cut literal) start input l = IsAtomOfInput input literal.atom
 IsFromSearchBy rule start input l = IsClosedByStart start l ⊎ IsFromClause input l

@@ -8,7 +8,7 @@ use Rattle.tableau_calculus.specs.declared.refutation.Why.{Why}
 use Rattle.refute_check.specs.declared.refusal.CheckRefused.{CheckRefused}
 use Rattle.refute_check.specs.declared.refusal.CheckRefused.TheVariants.{Line, Memory}
 
--- where it is no want of memory, this holds of its line and its word
+-- unless memory ran out, this holds of its line and its word
 abbrev pub IfLine : CheckRefused → (ℕ → Why → Type 0) → Type 0
 IfLine (Line line why) P = P line why
 IfLine Memory P = Unit {0}

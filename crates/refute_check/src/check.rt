@@ -307,8 +307,8 @@ pub fn check_refutation(
     check_by(alloc, problem, text, false)
 }
 
-/// Whether the text is an accepted refutation of the problem without cuts. Answers the first line that fails otherwise, by its number in the
-/// file of the text.
+/// Whether the text is an accepted refutation of the problem without cuts. Answers the first line that fails otherwise, by its number in
+/// the file of the text.
 pub fn check_strict(
     alloc: Global,
     problem: &Problem,

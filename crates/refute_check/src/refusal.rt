@@ -4,7 +4,7 @@ use std::alloc::AllocError;
 use tableau_calculus::Why;
 use thiserror::Error;
 
-/// Why a text isn't accepted: the first of its lines that fails, counted from 1 in the whole file, and why; or want of memory.
+/// Why a text isn't accepted: the first of its lines that fails, counted from 1 in the whole file, and why; or memory ran out.
 #[derive(Clone, Copy, Debug, PartialEq, Eq, Error)]
 pub enum CheckRefused {
     #[error("line {line}: {why}")]

@@ -100,7 +100,8 @@ impl TextLits {
         &self.items[i].lit
     }
 
-    /// The place in the list to which the literal at this place was pushed first, by which lists that share their literals may be read fast.
+    /// The place in the list to which the literal at this place was pushed first, by which lists that share their literals may be read
+    /// fast.
     pub fn pushed_at(&self, i: usize) -> usize
         requires { i < length self.now }
     {

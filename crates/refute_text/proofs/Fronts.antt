@@ -74,7 +74,7 @@ any_inside p (z ∷ xs) x ys h = go (p z) (any_inside p xs x ys h)
     go true e = refl
     go false e = e
 
--- a front of a text holds no end line
+-- a prefix of a text holds no end line
 pub front-without_end : (xs : List (List ℕ)) (last : List ℕ) (ys : List (List ℕ)) → is_end_mark last ≡ true → IsFront (xs ++ (last ∷ ys)) → ⊥
 front-without_end xs last ys ends f =
     let inside : list_any is_end_mark ((xs ++ (last ∷ ys)) ++ f.more) ≡ true = ap (list_any is_end_mark) (append_assoc xs (last ∷ ys) f.more) ∙ any_inside is_end_mark xs last (ys ++ f.more) ends in

@@ -105,7 +105,7 @@ pub known_reads : (l : LiteralTree) (front rest bytes : List ℕ) → literal_te
 known_reads l front rest bytes e is whole ends =
     ap literal_text_at (sym whole ∙ ap (λ t. t ++ rest) (sym e)) ∙ literal_at-text l rest is (ends_stops rest ends)
 
--- the front before what follows
+-- the prefix before what follows
 pub front_of : (front rest bytes : List ℕ) → bytes ≡ front ++ rest → take (length bytes - length rest) bytes ≡ front
 front_of front rest bytes e =
     let whole = ap length e ∙ length-append front rest in

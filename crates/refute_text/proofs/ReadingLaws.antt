@@ -53,7 +53,7 @@ held-same behind r s h g = go (cut (text_lines r) h.last h.after (text_lines s) 
     go (shorter c e) = absurd (front-without_end (text_lines r) h.last c h.ends (subst IsFront e (front-text s g.has_text)))
     go (longer c e) = absurd (front-without_end (text_lines s) g.last c g.ends (subst IsFront e (front-text r h.has_text)))
 
--- a bad line isn't within a front
+-- a bad line isn't within a prefix
 bad-outside : (behind : List (List ℕ)) (place : ℕ) (b : IsBadAt behind place) (c : List (List ℕ)) → IsFront (b.before ++ (b.bad ∷ c)) → ⊥
 bad-outside behind place b c f = b.no_front (front-append (b.before ++ (b.bad ∷ [])) c (subst IsFront (sym (append_assoc b.before (b.bad ∷ []) c)) f))
 

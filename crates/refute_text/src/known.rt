@@ -15,7 +15,7 @@ use refute_print::{TextLit, TextLits};
 use std::alloc::{AllocError, Global};
 use std::marker::Model;
 
-/// A front of bytes, and what follows it.
+/// A prefix of bytes, and what follows it.
 #[derive(Drop)]
 struct Split<'a> {
     front: &'a [u8],
@@ -33,7 +33,7 @@ fn is_behind_literal(bytes: &[u8]) -> bool
     }
 }
 
-/// A front that is the text of the literal there, unless a name in quotes has a comma or brackets.
+/// A prefix that is the text of the literal there, unless a name in quotes has a comma or brackets.
 fn until_end(bytes: &[u8]) -> Split<'_>
     ensures whole { result.front.now ++ result.rest.now ≡ bytes.now }
     ensures ends { ends_literal result.rest.now ≡ true }

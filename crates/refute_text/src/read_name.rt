@@ -26,7 +26,7 @@ pub(crate) fn behind<'a>(text: &[u8], bytes: &'a [u8]) -> Option<&'a [u8]>
     }
 }
 
-/// A front of bytes, and what follows it.
+/// A prefix of bytes, and what follows it.
 #[derive(Drop)]
 struct Split<'a> {
     front: &'a [u8],

@@ -6,7 +6,7 @@ ghost use Rattle.refute_text.specs.declared.refusal.Refusal.TheVariants.{Memory}
 use std::alloc::{AllocError, AllocFailed};
 use thiserror::Error;
 
-/// Why a text isn't read: a form that isn't the format's, or want of memory.
+/// Why a text isn't read: it has a form that isn't the format's, or memory ran out.
 #[derive(Clone, Copy, Debug, PartialEq, Eq)]
 pub(crate) enum Refusal {
     Form,

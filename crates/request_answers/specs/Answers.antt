@@ -60,8 +60,8 @@ pub record AnswersFiles (r : Request) (told : Bool) (contents : List ℕ → Opt
   pub names : List (List ℕ)
   pub files : OfFiles (problem_name r) (told_of told r) (contents_of contents r) names (AnswersEnding (AnswersProblem told contents r mode blocks) names answer)
 
--- What a request is answered with: the file of the mode or of the schedule comes first, then the problem's files, then what they state. Want of memory may come
--- anywhere.
+-- What a request is answered with: the file of the mode or of the schedule comes first, then the problem's files, then what they state.
+-- Memory may run out anywhere.
 abbrev pub AnswersRequest : Request → Bool → (List ℕ → Option (List ℕ)) → Answer → Type 0
 AnswersRequest r told contents Memory = Unit {0}
 AnswersRequest r told contents (ReadFault (named.Mode file)) = mode_file r ≡ Some file

@@ -50,7 +50,7 @@ pub record IsRefusedText (cuts : Cuts) (p : PlainProblem) (bytes : List ℕ) (li
   pub reads : ReadsText (lines_of bytes) reading
   pub fails : FailsFirst cuts p reading line why
 
--- what the bytes of a text are answered with; want of memory may come anywhere
+-- what the bytes of a text are answered with; memory may run out anywhere
 abbrev pub AnswersBytes : Cuts → PlainProblem → List ℕ → Answer → Type 0
 AnswersBytes cuts p bytes Memory = Unit {0}
 AnswersBytes cuts p bytes Accepted = IsAcceptedText cuts p bytes
@@ -64,7 +64,8 @@ AnswersText cuts told contents file p (ReadFault (Check name)) = name ≡ file
 AnswersText cuts told contents file p (TooLong (Check name)) = (name ≡ file) × IsLongFile told contents file
 AnswersText cuts told contents file p answer = OfFile told contents file (λ bytes. AnswersBytes cuts p bytes answer)
 
--- The bytes hold one refutation, which is this one, with the names of the definitions that are taken: so they are read, and in no other way.
+-- The bytes hold one refutation, which is this one, with the names of the definitions that are taken: so they are read, and in no other
+-- way.
 pub record HoldsOnly (p : PlainProblem) (bytes : List ℕ) (refutation : Refutation) : Type 0 where
   pub first : ℕ
   pub reads : ReadsText (lines_of bytes) (read (named_refutation (names_in p) (taken_names p) refutation) first)

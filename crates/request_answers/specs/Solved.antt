@@ -43,9 +43,9 @@ tree_told (Some (stripped.Tree tree nodes)) = Tree nodes
 tree_told (Some (stripped.Open branch)) = Open
 tree_told (Some (stripped.Over nodes)) = Over nodes
 
--- The run over the unfolded problem is proved after n commands, as a refutation shows, and where a tree is asked for, this is told of it. What
--- is written has a text with the names of the definitions that are taken, which is this one, and the text has it: the numbers of the names of
--- what is declared are those from which the names came.
+-- The run over the unfolded problem is proved after n commands, as a refutation shows, and where a tree is asked for, this is told of it.
+-- What is written has a text with the names of the definitions that are taken, which is this one, and the text has it: the numbers of the
+-- names of what is declared are those from which the names came.
 pub record IsProofOf (nodes : Option ℕ) (m : Mode) (p : PlainProblem) (n : ℕ) (tree : TreeReport) (text : List ℕ) : Type 0 where
   pub rebuilt : Refutation
   pub refuted : IsRefuted (unfolded_problem p) m n rebuilt
@@ -75,9 +75,9 @@ IsSolved nodes m p (CommandLimit n) = IsStopped (setting_for p m) (start (unfold
 IsSolved nodes m p (ConflictLimit c) = IsSpent (setting_for p m) (start (unfolded_problem p)) c
 IsSolved nodes m p answer = ⊥
 
--- The schedule of the blocks over the unfolded problem is closed after so many commands of all runs, by the run of a block: the mode that is
--- told is that of the block, counted from 1. This run is proved after a number of commands of its own, and the text is that of a refutation
--- of it.
+-- The schedule of the blocks over the unfolded problem is closed after so many commands of all runs, by the run of a block: the mode that
+-- is told is that of the block, counted from 1. This run is proved after a number of commands of its own, and the text is that of a
+-- refutation of it.
 pub record IsProofInTurns (blocks : List Block) (p : PlainProblem) (total : ℕ) (told : Option ℕ) (text : List ℕ) : Type 0 where
   pub number : ℕ
   pub is_told : told ≡ Some (number + 1)

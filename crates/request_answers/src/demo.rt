@@ -60,7 +60,7 @@ fn report(alloc: Global, name: &str, answer: &Answer) -> Result<Bytes, AllocErro
     }
 }
 
-/// Whether an answer is that a text is accepted; none where it is want of memory.
+/// Whether an answer is that a text is accepted; none where it is that memory ran out.
 fn verdict(answer: &Answer) -> Option<bool>
     ensures { result ≡ verdict_of answer.now }
 {

@@ -15,8 +15,8 @@ use std::alloc::{AllocError, Global};
 use stt_core::Problem;
 use szs_report::{Answer, TreeReport};
 
-/// The answer for a schedule over the unfolded problem that has ended. A proof is told with the commands of all runs, and with the number of
-/// its block from 1 on.
+/// The answer for a schedule over the unfolded problem that has ended. A proof is told with the commands of all runs, and with the number
+/// of its block from 1 on.
 fn scheduled_answer(
     alloc: Global,
     problem: &Problem,

@@ -37,12 +37,14 @@ AreAmong variables clauses = All (λ clause. All (λ l. Contains variables l.var
 abbrev pub OccurIn : List (List SatLit) → List (List SatLit) → Type 0
 OccurIn others clauses = (clause : List SatLit) (l : SatLit) → Contains clauses clause → IsTrue (holds clause l) → Any (λ c. IsTrue (holds c l)) others
 
--- A clause is learned from clauses, after earlier ones: the clauses imply it, and it is new to unit propagation over them and the earlier ones.
+-- A clause is learned from clauses, after earlier ones: the clauses imply it, and it is new to unit propagation over them and the earlier
+-- ones.
 pub record IsLearnedFrom (clauses earlier : List (List SatLit)) (clause : List SatLit) : Type 0 where
   pub implied : Implies clauses clause
   pub new : IsNew (clauses ++ earlier) clause
 
--- Clauses were learned one after the other while clauses were added: each from those that were there then, which are so many of the first ones.
+-- Clauses were learned one after the other while clauses were added: each from those that were there then, which are so many of the first
+-- ones.
 pub record WereLearned (clauses learned : List (List SatLit)) : Type 0 where
   pub there : List ℕ
   pub counted : length there ≡ length learned

@@ -23,8 +23,11 @@ use std::alloc::{AllocError, Global};
 /// What a call of `solve` found.
 #[derive(Clone, Copy, Debug, PartialEq, Eq)]
 pub enum Answer {
+    /// The clauses have a satisfying assignment.
     Sat,
+    /// The clauses are unsatisfiable, and the last result of the log is the empty clause.
     Unsat,
+    /// The budget is spent: so many clauses were learned, and there is one more conflict.
     Spent { conflicts: u64 },
 }
 

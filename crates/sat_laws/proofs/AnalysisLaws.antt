@@ -107,7 +107,8 @@ outcome_false trail so_far reason outcome place t at below unit made l h =
           ]
         ]
 
--- the learned clause is new: one of its literals is false only after a decision up to which the trail was complete, the others were false by then
+-- the learned clause is new: one of its literals is false only after a decision up to which the trail was complete, the others were false
+-- by then
 pub learned_new : (clauses : List (List SatLit)) (trail learned : List SatLit) (s : ℕ) (t : SatLit) → IsComplete clauses (take s trail) → IsConsistent trail → holds trail t ≡ true
     → holds learned (negated t) ≡ true → ((l : SatLit) → holds learned l ≡ true → same_literal (negated t) l ≡ false → holds (take s trail) (negated l) ≡ true) → IsNew clauses learned
 learned_new clauses trail learned s t complete consistent there member others =

@@ -195,8 +195,8 @@ module _ (words : List (List ℕ)) (told : Bool) (contents : List ℕ → Option
         is = ap₂ (λ c j. Proved c n j tree text) f.answered.0 q.is_told ∙ ap (λ t. Proved (claim_of f.problem) n (Some (q.number + 1)) t text) f.answered.1;
       }
 
--- Where a proof is answered, a problem is to be proved, and files are answered so. The conclusion is a variable, so that no record is compared
--- field by field.
+-- Where a proof is answered, a problem is to be proved, and files are answered so. The conclusion is a variable, so that no record is
+-- compared field by field.
 module _ (R : Type 0) (told : Bool) (contents : List ℕ → Option (List ℕ)) (claim : Claim) (n : ℕ) (i : Option ℕ) (tree : TreeReport) (text : List ℕ) where
   abbrev proof_told : Answer
   proof_told = Proved claim n i tree text
@@ -477,7 +477,7 @@ pub outcome_whole : (words : List (List ℕ)) (told : Bool) (contents : List ℕ
 outcome_whole words told contents ended.WriteFault a answer is = tt
 outcome_whole words told contents o a answer is = (a, answer, is)
 
--- want of memory needs no cause
+-- that memory ran out needs no cause
 pub memory_without_cause : (o : Option Request) (told : Bool) (contents : List ℕ → Option (List ℕ)) (before : List ℕ → ℕ) → HasCauseAsked o told contents before before ended.Memory
 memory_without_cause None told contents before = λ file. refl
 memory_without_cause (Some r) told contents before = λ file. refl

@@ -1,4 +1,4 @@
--- Over told contents there is one defined answer, but for the refutation of a proof.
+-- Where the files tell their contents there is one defined answer, but for the refutation of a proof.
 use Rattle.std.proofs.Common.{◌≡◌, ◌≢◌, ℕ, ◌<◌, ◌≤◌, ◌⊎◌, inl, inr, true, List, length, Option, Some, None, Result, Ok, Err, refl, sym, ap, ap₂, subst, ◌∙◌, arith}
 use Rattle.stt_core.specs.PlainProblem.{PlainProblem}
 use Rattle.tableau_calculus.specs.declared.refutation.Why.{Why}

@@ -184,7 +184,7 @@ module _ (contents : List ℕ → Option (List ℕ)) (name : List ℕ) (names te
           go (inr (inl h)) (inr (inr k)) = inr (whole_too n q (omega (arith, k)))
           go (inr (inl h)) (inr (inl k)) = inl (further n q h k)
 
-  -- two gatherings over told contents that want no file are one
+  -- two gatherings over files that tell their contents are one, where both want no file
   pub one_told : IsSameGathering names others e f
   one_told = finish (agree (length names))
     where

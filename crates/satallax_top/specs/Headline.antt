@@ -96,8 +96,8 @@ abbrev pub IsModeAsked : Bool → (List ℕ → Option (List ℕ)) → Request �
 IsModeAsked told contents (by_schedule file p) mode = (blocks : List Block) × IsScheduleBy told contents (Some file) blocks × IsModeOfSome blocks mode
 IsModeAsked told contents r mode = IsModeBy told contents (mode_file r) mode
 
--- Whatever problem the files state that a request is about, and by whatever mode it is run: the mode has enough conflicts for the clauses of
--- each state of the run.
+-- Whatever problem the files state that a request is about, and by whatever mode it is run: the mode has enough conflicts for the clauses
+-- of each state of the run.
 abbrev pub EnoughAsked : Option Request → Bool → (List ℕ → Option (List ℕ)) → Type 0
 EnoughAsked None told contents = Unit {0}
 EnoughAsked (Some r) told contents =
@@ -114,8 +114,8 @@ pub record IsAskedBy (words : List (List ℕ)) (told : Bool) (contents : List �
   pub asked : asked_by words ≡ Some (prove problem file nodes)
   pub is_mode : IsModeBy told contents file mode
 
--- The words ask for the proof of a problem by the schedule of a file. Over this problem the schedule is closed after so many commands of all
--- runs, by the run of the block of this number, counted from 0, whose mode this is.
+-- The words ask for the proof of a problem by the schedule of a file. Over this problem the schedule is closed after so many commands of
+-- all runs, by the run of the block of this number, counted from 0, whose mode this is.
 pub record IsAskedInTurns (words : List (List ℕ)) (told : Bool) (contents : List ℕ → Option (List ℕ)) (p : PlainProblem) (mode : Mode) (total number : ℕ) : Type 0 where
   pub problem : List ℕ
   pub file : List ℕ
@@ -127,9 +127,9 @@ pub record IsAskedInTurns (words : List (List ℕ)) (told : Bool) (contents : Li
   pub its_mode : block.mode ≡ mode
   pub closes : ScheduleEnds (slots_for p blocks) (start (unfolded_problem p)) (closed number total)
 
--- What is reported beside a proof by this mode after n commands. Where the words ask for one mode, that is the number of these commands. Where
--- they ask for a schedule, it is the number of the commands of all runs, with the number of the mode's block, counted from 1, and no tree is
--- asked for.
+-- What is reported beside a proof by this mode after n commands. Where the words ask for one mode, that is the number of these commands.
+-- Where they ask for a schedule, it is the number of the commands of all runs, with the number of the mode's block, counted from 1, and no
+-- tree is asked for.
 abbrev pub IsReportedSo : List (List ℕ) → Bool → (List ℕ → Option (List ℕ)) → PlainProblem → Mode → Option ℕ → ℕ → ℕ → Option ℕ → Type 0
 IsReportedSo words told contents p mode nodes n reported None = IsAskedBy words told contents mode nodes × (reported ≡ n)
 IsReportedSo words told contents p mode nodes n reported (Some i) = (nodes ≡ None) × ((number : ℕ) × (i ≡ number + 1) × IsAskedInTurns words told contents p mode reported number)
@@ -143,11 +143,11 @@ IsTreeMade (Some (stripped.Over nodes)) = ⊥
 
 -- What is written where a proof is reported. The outcome is what the proof shows of the problem that the files state, and the bytes are its
 -- report. They hold one refutation, with the names of the definitions that are taken, so that they are an accepted text for the problem. It
--- is accepted for the start of the unfolded problem, and the tableau of its last line closes that start. After a number of commands, and not
--- before, the clauses of the search by the mode are unsatisfiable, and from these clauses a refutation is rebuilt. That number is reported, or
--- under a schedule the number of the commands of all runs, with that of the mode. The refutation is the one that is written, unless a tree
--- without cut is asked for and comes of the instances that it uses: then that of the tree is, and a check that forbids cuts accepts the bytes
--- too. No standard model with finite base types meets the problem.
+-- is accepted for the start of the unfolded problem, and the tableau of its last line closes that start. After a number of commands, and
+-- not before, the clauses of the search by the mode are unsatisfiable, and from these clauses a refutation is rebuilt. That number is
+-- reported, or under a schedule the number of the commands of all runs, with that of the mode. The refutation is the one that is written,
+-- unless a tree without cut is asked for and comes of the instances that it uses: then that of the tree is, and a check that forbids cuts
+-- accepts the bytes too. No standard model with finite base types meets the problem.
 pub record IsProofReport (words : List (List ℕ)) (told : Bool) (contents : List ℕ → Option (List ℕ)) (outcome : Outcome) (written : List ℕ) : Type 0 where
   pub mode : Mode
   pub nodes : Option ℕ
@@ -185,7 +185,7 @@ pub record IsReported (words : List (List ℕ)) (told : Bool) (contents : List �
   pub is_outcome : outcome ≡ outcome_of answer
   pub is_report : written ≡ report_of (asked_name words) answer
 
--- a write failed: a proper front of the report of an answer was written, and the answer's cause is there
+-- a write failed: a proper prefix of the report of an answer was written, and the answer's cause is there
 pub record IsCutShort (words : List (List ℕ)) (told : Bool) (contents : List ℕ → Option (List ℕ)) (before now : List ℕ → ℕ) (old new : List ℕ) : Type 0 where
   pub answer : Answer
   pub is_answer : IsAnswer words told contents answer

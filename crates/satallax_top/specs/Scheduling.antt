@@ -29,8 +29,8 @@ end_outcome p (closed number total) = claim_outcome (claim_of p)
 end_outcome p (empty total) = GaveUp
 end_outcome p (limit total) = CommandLimit total
 
--- The file states blocks, and the schedule of their runs over the problem that the files state ends as the outcome says: a proof is reported
--- exactly where the run of some block is proved.
+-- The file states blocks, and the schedule of their runs over the problem that the files state ends as the outcome says: a proof is
+-- reported exactly where the run of some block is proved.
 pub record HasScheduleSo (words : List (List ℕ)) (told : Bool) (contents : List ℕ → Option (List ℕ)) (file : List ℕ) (outcome : Outcome) : Type 0 where
   pub blocks : List Block
   pub are_blocks : IsScheduleBy told contents (Some file) blocks

@@ -12,8 +12,9 @@ ghost use Rattle.request_answers.specs.Answers.{IsSettled, Defined, IsAnswer};
 ghost use Rattle.satallax_top.specs.Headline.{AreConflictsEnough};
 ghost use Rattle.satallax_top.specs.Laws.{ProofPropagatesWithoutConflict, SpentEndsBeforeProof, SpentEndsNoLaterThanProof};
 
-/// Over told contents there is one defined answer, but for the refutation of a proof: any that is accepted will do. So there is one outcome.
-/// A run ends in one way, after one number of commands, where its conflicts aren't spent, and so does a schedule of runs.
+/// Where the files tell their contents there is one defined answer, but for the refutation of a proof, which may be any accepted one.
+/// So there is one outcome. A run ends in one way, after one number of commands, where its conflicts aren't spent, and so does a schedule
+/// of runs.
 pub fn one_answer()
     ensures run { (nodes : Option ℕ) (m : Mode) (p : PlainProblem) (one other : Answer) → IsSettled one → IsSettled other → IsSolved nodes m p one → IsSolved nodes m p other
         → without_refutation one ≡ without_refutation other }
@@ -31,8 +32,8 @@ pub fn enough_is_never_spent()
         → IsAnswer words told contents (ConflictLimit conflicts) → ⊥ }
 {}
 
-/// Where a proof is reported by a mode that has no conflicts, unit propagation over the clauses of the search reaches a false clause. A run over
-/// the same problem by the same mode whose conflicts are spent ends no later, and earlier where the proof learned nothing else.
+/// Where a proof is reported by a mode that has no conflicts, unit propagation over the clauses of the search reaches a false clause. A run
+/// over the same problem by the same mode whose conflicts are spent ends no later, and earlier where the proof learned nothing else.
 pub fn conflicts_of_a_proof()
     ensures propagated { ProofPropagatesWithoutConflict }
     ensures no_later { SpentEndsNoLaterThanProof }

@@ -58,9 +58,9 @@ fn call<F: Files>(alloc: Global, words: &Words, files: &mut F) -> Called
     }
 }
 
-/// Proves the problem that the words name, by one mode or by several that take turns, or checks the text of a refutation against it, or makes
-/// and proves one, or looks for a finite model of it, or compares the two sides of its conjecture, and writes the report. The words are those
-/// behind the program's name. All is built before the first byte is written, and from then on no memory is taken.
+/// Proves the problem that the words name, by one mode or by several that take turns, or checks the text of a refutation against it, or
+/// makes and proves one, or looks for a finite model of it, or compares the two sides of its conjecture, and writes the report. The words
+/// are those behind the program's name. All is built before the first byte is written, and from then on no memory is taken.
 pub fn satallax<F: Files, S: Sink>(
     alloc: Global,
     words: &Words,
@@ -70,18 +70,19 @@ pub fn satallax<F: Files, S: Sink>(
     // The outcome is that of an answer for these words and for the contents of the files that they name.
     ensures outcome { IsOutcome words.now (F.tells files.old) (F.contents files.old) result }
 
-    // What is written is the report of the outcome, or where a write failed a proper front of the report of an answer whose cause is there.
+    // What is written is the report of the outcome, or where a write failed a proper prefix of the report of an answer whose cause is
+    // there.
     ensures bytes { IsTrue (S.tells out.old)
         → IsWritten words.now (F.tells files.old) (F.contents files.old) (F.faults files.old) (F.faults files.new) (S.written out.old) (S.written out.new) result }
 
     // Where a proof is reported, what is written holds one refutation, the one that was found. It is accepted: so the check of these bytes
-    // accepts them, its tableau is closed, and no model meets the problem. After the reported number of commands, and not before, the clauses
-    // of the search are unsatisfiable; under a schedule, after a number of commands of the run that closes it.
+    // accepts them, its tableau is closed, and no model meets the problem. After the reported number of commands, and not before, the
+    // clauses of the search are unsatisfiable; under a schedule, after a number of commands of the run that closes it.
     ensures proof { IsTrue (S.tells out.old) → IsProvedOutcome result
         → Appends (S.written out.old) (S.written out.new) (IsProofReport words.now (F.tells files.old) (F.contents files.old) result) }
 
-    // Where a schedule is asked for and its runs end it, a proof is reported exactly where the run of some block is proved, and else how the
-    // schedule ends.
+    // Where a schedule is asked for and its runs end it, a proof is reported exactly where the run of some block is proved, and else how
+    // the schedule ends.
     ensures schedule { (file problem : List ℕ) → asked_by words.now ≡ Some (by_schedule file problem) → IsOfRuns result
         → HasScheduleSo words.now (F.tells files.old) (F.contents files.old) file result }
 

@@ -30,7 +30,8 @@ positive_first command l m = if l.positive then command l m else command m l
 abbrev pub matings : Literal → List Literal → List Command
 matings l noted = map (positive_first mate l) (partners (same_head l.atom) l noted)
 
--- an equation on a type, or its negation, is to be confronted with each processed one of the other sign; a negated one has two different sides
+-- an equation on a type, or its negation, is to be confronted with each processed one of the other sign; a negated one has two different
+-- sides
 abbrev pub confrontations : SimpleType → Literal → List Literal → List Command
 confrontations a l noted =
     map (positive_first confront l) (partners (λ t. equates_on a t && (not l.positive || not (has_equal_sides t))) l noted)

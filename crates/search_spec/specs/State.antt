@@ -38,8 +38,8 @@ pub data Command : Type 0 where
   grow : Sketch → Lambda → Command
 
 -- The clauses, the literals that were seen and those that were processed, the terms for instances, the predicates that were chosen by
--- and those that were described, the witness table, the partial terms, the commands that wait, how many commands were pushed and done so far,
--- and the moment from which delays count.
+-- and those that were described, the witness table, the partial terms, the commands that wait, how many commands were pushed and done so
+-- far, and the moment from which delays count.
 pub record State : Type 0 where
   pub clauses : List Clause
   pub seen : List Literal

@@ -1,8 +1,8 @@
 //! A law of the definitions.
 ghost use Rattle.small_rebuilt.specs.Small.{RebuiltTermsAreSmall, SmallInRange, UsesTakeSmall};
 
-/// Where the literals of the clauses, the terms of the instances and the rows' predicates are small enough for a text, those of a refutation
-/// that is rebuilt from them are.
+/// Where the literals of the clauses, the terms of the instances and the rows' predicates are small enough for a text, those of a
+/// refutation that is rebuilt from them are.
 pub fn rebuilt_terms_are_small()
     ensures { RebuiltTermsAreSmall }
 {}

@@ -10,6 +10,7 @@ use type_check::IllWhy;
 /// part 0.
 #[derive(Clone, Copy, Debug, PartialEq, Eq)]
 pub enum FileRef {
+    /// A file of the problem, by its number.
     Part(u32),
     /// The file of a mode.
     Mode,
@@ -137,8 +138,8 @@ pub enum Outcome {
     },
     /// The words ask for nothing that the program does.
     Words,
-    /// With this file, the problem's files have more than 16,777,216 bytes together, or the mode's file, the schedule's file or the text that
-    /// is checked has more of them.
+    /// With this file, the problem's files have more than 16,777,216 bytes together, or the mode's file, the schedule's file or the text
+    /// that is checked has more of them.
     TooLong {
         file: FileRef,
     },

@@ -347,7 +347,7 @@ fn write_refused<S: Sink>(
     write_place_why(out, name, word, file, digits, why)
 }
 
-/// Writes the report of an ill place of a file.
+/// Writes the report of a type error in a file.
 fn write_ill<S: Sink>(
     out: &mut S,
     name: &[u8],

@@ -4,7 +4,7 @@ use crate::refutation::Why;
 use std::alloc::AllocError;
 use thiserror::Error;
 
-/// Why a refutation isn't accepted: the first row or line that fails, and why, or want of memory. Rows count from 0, and then lines.
+/// Why a refutation isn't accepted: the first row or line that fails, and why; or memory ran out. Rows count from 0, and then lines.
 #[derive(Debug, Drop, Error)]
 pub enum PlainRefused {
     #[error("row or line {line}: {why}")]

@@ -8,25 +8,52 @@ use std::marker::Model;
 use stt_core::{Nf, Ty};
 use thiserror::Error;
 
-/// A rule with what its instance takes. A number is the place of a principal in the branch, from 0.
+/// A rule with what its instance takes. A number is the place of a principal in the branch, from 0. With each alternative, a list of
+/// literals, the branch goes on. Where its line doesn't say otherwise, a rule is from C. E. Brown, G. Smolka, *Analytic tableaux for simple
+/// type theory and its first-order fragment*, 2010, section 4; a choice at the head in `Mat` and `Dec` is from J. Backes, C. E. Brown,
+/// *Analytic tableaux for higher-order logic with choice*, 2011, section 3. The table is `specs/Rules`.
 #[derive(Drop)]
 pub enum RuleUse {
+    /// The principal is falsity. There is no alternative: the branch is closed.
     False(usize),
+    /// The principals are a literal and its negation. There is no alternative.
     Close(usize, usize),
+    /// The principal is a negated equation of a term with itself. There is no alternative.
     Refl(usize),
+    /// The principal is an implication. One alternative has the negation of its left side, the other its right side.
     ImpPos(usize),
+    /// The principal is a negated implication. The only alternative has its left side and the negation of its right side.
     ImpNeg(usize),
+    /// The principal is an equation of formulas. One alternative has both sides, the other the negations of both.
     BoolPos(usize),
+    /// The principal is a negated equation of formulas. Each alternative has one side and the negation of the other.
     BoolNeg(usize),
+    /// The principal is an equation of functions. The only alternative says that they agree at each argument.
     FunPos(usize),
+    /// The principal is a negated equation of functions. The only alternative denies that they agree at each argument.
     FunNeg(usize),
+    /// The principal says that a predicate holds everywhere. The only alternative says that it holds of this term.
     AllPos(usize, Nf),
+    /// The principal denies that a predicate holds everywhere. The only alternative denies that it holds of the witness of its row, which
+    /// stands in place of a new name.
     AllNeg(usize),
+    /// Mating. The principals are an atom and a negated atom with one head and with arguments. The head is a name, a witness, a choice or a
+    /// description. For each argument there is an alternative, which says that the two there differ.
     Mat(usize, usize),
+    /// Decomposition. The principal is a negated equation on a base type other than that of formulas. Its sides have one head, as in `Mat`,
+    /// and arguments. For each argument there is an alternative, which says that the two there differ.
     Dec(usize),
+    /// Confrontation. The principals are an equation and a negated equation, both on one base type other than that of formulas. One
+    /// alternative says that both sides of the first differ from the left side of the second, the other that both differ from its right
+    /// side.
     Con(usize, usize),
+    /// Choice by this predicate, without a principal (Backes and Brown 2011, section 3). One alternative says that it holds nowhere, the
+    /// other that it holds of what it chooses.
     Cho(Nf),
+    /// Description by this predicate, without a principal (the form is this project's own). One alternative says that it holds nowhere, the
+    /// second denies that it holds at most once, and the third says that it holds of what it describes.
     Des(Nf),
+    /// Cut with this literal, without a principal (this project's own). One alternative has the literal, the other its negation.
     Cut(Lit),
 }
 
@@ -230,30 +257,37 @@ pub struct Refutation {
     pub lines: Lines,
 }
 
-/// Why a refutation is refused. A text may fail in its form, lack its start or its end, or name other definitions than those that are
-/// taken; `Typing` is a term that isn't closed, canonical and of the wanted type, `Twice` a second row with a predicate, `Cut` a cut
-/// where none may stand, `Principal` a rule that doesn't fit its branch, `Child` a child that doesn't close its alternative, and `Last`
-/// a last line that isn't about the start, or no line.
+/// Why a refutation, or its text, isn't accepted.
 #[derive(Clone, Copy, Debug, PartialEq, Eq, Error)]
 pub enum Why {
+    /// A line of the text isn't of the format.
     #[error("a wrong form")]
     Form,
+    /// The text has no start line.
     #[error("no start line")]
     Start,
+    /// The text has no end line.
     #[error("no end line")]
     End,
+    /// A term isn't closed, or isn't canonical of the type that is wanted there.
     #[error("a term that isn't of the wanted type")]
     Typing,
+    /// A row has the predicate of an earlier row.
     #[error("a second row with this predicate")]
     Twice,
+    /// A line's rule is a cut, where none is allowed.
     #[error("a cut")]
     Cut,
+    /// A line's rule doesn't fit what stands at its places in the branch, or a place isn't in the branch.
     #[error("a rule that doesn't fit")]
     Principal,
+    /// A line hasn't one child for each alternative, or a child doesn't close the branch with its alternative.
     #[error("a child that doesn't close its alternative")]
     Child,
+    /// A literal of the last line's branch isn't in the start, or there is no line.
     #[error("a last line that isn't about the start")]
     Last,
+    /// The text names other definitions than those that are taken from the problem.
     #[error("a definition that isn't the one taken there")]
     Defs,
 }

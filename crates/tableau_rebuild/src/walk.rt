@@ -75,8 +75,8 @@ fn no_flags(alloc: Global, drafts: &[Draft]) -> Result<Vec<bool>, AllocError>
     Ok(flags)
 }
 
-/// The lines in the order in which the walk from the last one first ends with them. It has a stack of its own, since lines may stand on each
-/// other in a row of any length.
+/// The lines in the order in which the walk from the last one first ends with them. It has a stack of its own, since lines may stand on
+/// each other in a row of any length.
 pub(crate) fn walk_from(
     alloc: Global,
     drafts: &[Draft],

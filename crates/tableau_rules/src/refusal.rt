@@ -3,7 +3,7 @@
 use std::alloc::AllocError;
 use thiserror::Error;
 
-/// Why a rule gives no instance: it has none with these principals and this term, or want of memory.
+/// Why a rule gives no instance: it has none with these principals and this term, or memory ran out.
 #[derive(Clone, Copy, Debug, PartialEq, Eq, Error)]
 pub enum RuleRefused {
     #[error("the rule has no instance with these principals and this term")]

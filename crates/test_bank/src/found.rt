@@ -12,7 +12,8 @@ use crate::shared::twice_imported;
 use std::alloc::Global;
 use term_bank::Bank;
 
-/// How many terms a bank has, once or after each of two calls; how deep a term is, or how many nodes a tree has; or whether two terms are one.
+/// How many terms a bank has, once or after each of two calls; how deep a term is, or how many nodes a tree has; or whether two terms are
+/// one.
 #[derive(Clone, Copy)]
 pub enum Found {
     Terms(usize),

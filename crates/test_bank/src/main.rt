@@ -1,5 +1,5 @@
-//! Rows of the bank and of the normaliser: how many terms a bank has after some calls, and which terms two calls give. Each line that is read asks
-//! for a row, over a bank of its own.
+//! Rows of the bank and of the normaliser: how many terms a bank has after some calls, and which terms two calls give. Each line that is
+//! read asks for a row, over a bank of its own.
 #![tactic(auto)]
 
 mod canonical;

@@ -1,8 +1,8 @@
 //! Reads lines with the words of a command line, or with a mode file, and writes each with what it states or why it is refused. A line that
-//! begins with `words` has the words behind it, which single spaces part; one that begins with `mode` has the file behind it. There `\n`, `\r`,
-//! `\t`, `\0`, `\u`, `\d` and `\e` stand for the characters 10, 13, 9, 0, 31, 127 and 128. Lines with `file` or `any` have a limit and a
-//! file's name or its text, `queue` and `drop` a text for a sink, `problem` and `measure` the number of a problem, and `room` the room of a sink
-//! and the number of a problem. Those with `%` are copied. Rows of a buffered sink and of agendas come after them.
+//! begins with `words` has the words behind it, which single spaces part; one that begins with `mode` has the file behind it. There `\n`,
+//! `\r`, `\t`, `\0`, `\u`, `\d` and `\e` stand for the characters 10, 13, 9, 0, 31, 127 and 128. Lines with `file` or `any` have a limit
+//! and a file's name or its text, `queue` and `drop` a text for a sink, `problem` and `measure` the number of a problem, and `room` the
+//! room of a sink and the number of a problem. Those with `%` are copied. Rows of a buffered sink and of agendas come after them.
 #![tactic(auto)]
 
 mod agenda;

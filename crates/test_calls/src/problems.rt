@@ -45,7 +45,7 @@ pub fn measured(alloc: Global, n: u32) -> anyhow::Result<String> {
     Ok(format!(in alloc; "{} bytes, {is_right}, {has_length}", made.len())?)
 }
 
-/// Whether the problem of a number is written to a sink with this much room, how many bytes are, and whether they are its front.
+/// Whether the problem of a number is written to a sink with this much room, how many bytes are, and whether they are a prefix of it.
 pub fn written(alloc: Global, n: u32, room: usize) -> anyhow::Result<String> {
     if n == 0 || n > 1000 {
         bail!("no problem has this number");

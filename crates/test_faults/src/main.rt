@@ -1,5 +1,5 @@
-//! Has each call of the files, and each call of the sink, fail in a run of its own, and gives the sink each room up to the length of the report.
-//! It prints what the runs end with, and how many there are.
+//! Has each call of the files, and each call of the sink, fail in a run of its own, and gives the sink each room up to the length of the
+//! report. It prints what the runs end with, and how many there are.
 #![tactic(auto)]
 
 mod call;

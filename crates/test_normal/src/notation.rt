@@ -1,7 +1,8 @@
 //! Types and terms as short texts, in which a function stands before its arguments. A type is `o`, `i`, or `>` and two types. A term is a
 //! digit, for the variable with so many binders before its own, the letter of a constant or of the witness, `F`, `N` or `I` for falsity,
-//! negation and implication, `A`, `E`, `C` or `D` and a type for a quantifier, an equality, a choice and a description, `^`, a type and a body for a function,
-//! or `@`, a function and its argument. So `^>ii@0c` is the function that applies its argument, of type `i > i`, to `c`.
+//! negation and implication, `A`, `E`, `C` or `D` and a type for a quantifier, an equality, a choice and a description, `^`, a type and a
+//! body for a function, or `@`, a function and its argument. So `^>ii@0c` is the function that applies its argument, of type `i > i`, to
+//! `c`.
 
 use anyhow::Context;
 use std::alloc::{AllocError, Global};

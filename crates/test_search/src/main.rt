@@ -1,6 +1,6 @@
 //! Runs the search over the problems in files. Each line that is read names a file, and behind it settings of a mode with commas between
-//! them; behind the word `trace` what there is after each command is written too, and behind the word `text` the refutation. Each refutation
-//! is checked, but behind the word `alone`.
+//! them; behind the word `trace` what there is after each command is written too, and behind the word `text` the refutation. Each
+//! refutation is checked, but behind the word `alone`.
 #![tactic(auto)]
 
 ghost use Rattle.mode_file.specs.Given.{IsInRange};

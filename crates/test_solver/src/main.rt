@@ -1,5 +1,5 @@
-//! Clauses, chains and logs worked out by hand, and the solver's answers beside truth tables: pigeonhole problems, random problems, and random
-//! sequences of variables, clauses and answers.
+//! Clauses, chains and logs worked out by hand, and the solver's answers beside truth tables: pigeonhole problems, random problems, and
+//! random sequences of variables, clauses and answers.
 #![tactic(auto)]
 
 mod chains;

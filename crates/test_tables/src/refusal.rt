@@ -3,7 +3,7 @@
 use std::alloc::{AllocError, AllocFailed};
 use thiserror::Error;
 
-/// Why a row has no answer: it says nothing, or want of memory.
+/// Why a row has no answer: it says nothing, or memory ran out.
 #[derive(Clone, Copy, Debug, PartialEq, Eq, Error)]
 pub enum RowRefused {
     #[error("the row says nothing")]

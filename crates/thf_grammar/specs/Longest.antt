@@ -9,7 +9,7 @@ pub record IsLongestToken (kind : TokenKind) (bytes : List ℕ) (n : ℕ) : Type
   pub token : IsToken kind (take n bytes)
   pub longest : (other : TokenKind) (m : ℕ) → m ≤ length bytes → IsToken other (take m bytes) → m ≤ n
 
--- the first n bytes stand between tokens, and no longer front does
+-- the first n bytes stand between tokens, and no longer prefix does
 pub record IsLongestGap (bytes : List ℕ) (n : ℕ) : Type 0 where
   pub within : n ≤ length bytes
   pub gap : IsGap (take n bytes)

@@ -1,5 +1,5 @@
-//! The grammar of THF files, as definitions: which texts are tokens, and which tokens have which tree. The code has the tokens, the terminals
-//! and the trees of which it speaks.
+//! The grammar of THF files, as definitions: which texts are tokens, and which tokens have which tree. The code has the tokens, the
+//! terminals and the trees of which it speaks.
 #![tactic(auto)]
 
 mod connective;

@@ -50,7 +50,7 @@ still-step tells contents R texts opened before after answer h = record {
   ends = subst (λ all. StepsEndAs R all [] opened before after answer) (sym (append-nil texts)) h;
 }
 
--- a step that was done, where memory is wanted then
+-- a step that was done, where memory runs out then
 pub cut-step : {T : Type 0} (tells : Bool) (contents : List ℕ → Option (List ℕ)) (R : List (List ℕ) → List (List ℕ) → Ending → Type 0) (texts more names : List (List ℕ)) (old new : Opened) (before after : List PlacedTree)
     → AreRead texts old → new.names ≡ old.names ++ names → (IsTrue tells → AreContents contents names more) → 0 < length names
     → ((m : ℕ) → length old.names + length names ≡ m + 1 → R (take m (texts ++ more)) names (stopped (wants m)))
@@ -78,7 +78,7 @@ module _ (tells : Bool) (contents : List ℕ → Option (List ℕ)) (chain : Lis
       subst (λ k. FileEnds (texts ++ []) chain (length old.names) name (name ∷ []) (stopped (wants k))) (sym e)
       (unread chain (length old.names) name (omega (arith, r.each, length-append texts [])))
 
-  -- memory is wanted when the file was opened
+  -- memory runs out when the file was opened
   opened-step : {T : Type 0} (before after : List PlacedTree) (names : List (List ℕ)) → names ≡ [] → new.names ≡ (old.names ++ name ∷ []) ++ names → FileSteps {T = T} tells contents chain name old new before after (Err Memory)
   opened-step before after names none opened texts r =
       let one : new.names ≡ old.names ++ name ∷ [] = opened ∙ ap (λ ns. (old.names ++ name ∷ []) ++ ns) none ∙ append-nil (old.names ++ name ∷ []) in

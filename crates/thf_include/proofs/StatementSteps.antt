@@ -99,7 +99,7 @@ module _ (tells : Bool) (contents : List ℕ → Option (List ℕ)) (chain : Lis
           (statements-append ((texts ++ p.more) ++ more) chain file (length old.names) front p.names (done p.ends.statements) first p.ends.statements refl rest names ending
           (subst (λ n. StatementsEnd ((texts ++ p.more) ++ more) chain file n rest names ending) next h))
 
-    -- memory is wanted after the statements in front
+    -- memory runs out after the statements in front
     front-cut : {T : Type 0} (rest : List StatementTree) (last : List PlacedTree) → new.names ≡ mid.names → IsStep {T = T} tells contents (λ all ns ending. StatementsEnd all chain file (length old.names) (front ++ rest) ns ending) texts old new before last (Err Memory)
     front-cut {T} rest last same = go p.names refl
       where

@@ -15,7 +15,7 @@ StopsAs-map Q R E F names (TooMany file at) f g h = f _ h
 StopsAs-map Q R E F names Memory f g (inl none) = inl (g none)
 StopsAs-map Q R E F names Memory f g (inr h) = inr (f _ h)
 
--- memory is wanted where E holds, or else there is a stop
+-- memory ran out where E holds, or else there is a stop
 pub StopsAs-cases : (Q : Stop → Type 0) (E : Type 0) (names : List (List ℕ)) (e : GatherRefused) → StopsAs Q E names e → (E × (e ≡ Memory)) ⊎ StopsAs Q ⊥ names e
 StopsAs-cases Q E names (Fault file) h = inr h
 StopsAs-cases Q E names (TooLong file) h = inr h

@@ -6,7 +6,8 @@ ghost use Rattle.thf_include.specs.declared.refused.GatherRefused.TheVariants.{M
 use std::alloc::{AllocError, AllocFailed};
 use thiserror::Error;
 
-/// Why statements aren't gathered, or want of memory. Each `file` is a file's number, and each `at` a byte place in that file.
+/// Why statements aren't gathered: a file or an include stops it, or memory ran out. Each `file` is a file's number, and each `at` a byte
+/// place in that file.
 #[derive(Clone, Copy, Debug, PartialEq, Eq, Error)]
 pub enum GatherRefused {
     /// A call on this file failed, and the count of its name rose.

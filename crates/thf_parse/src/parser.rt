@@ -18,7 +18,7 @@ use thiserror::Error;
 /// How many things may be open at once in a body or in notes.
 pub const MAX_DEPTH: u32 = 512;
 
-/// Why tokens have no tree, or want of memory. Each `at` is the byte place of a token.
+/// Why tokens have no tree, or that memory ran out. Each `at` is the byte place of a token.
 #[derive(Debug, Drop, Error)]
 pub enum ParseRefused {
     /// The first token with which the tokens begin no file.

@@ -4,7 +4,7 @@ ghost use Rattle.thf_parse.specs.declared.refusal.Refusal.TheVariants.{Memory};
 
 use std::alloc::{AllocError, AllocFailed};
 
-/// Why tokens aren't read: the first of those that are left is wrong or too deep, or want of memory.
+/// Why tokens aren't read: the first of those that are left is wrong or too deep, or memory ran out.
 #[derive(Clone, Copy)]
 pub enum Refusal {
     Wrong,

@@ -59,7 +59,7 @@ fails_at_stop : (p : ℕ → Bool) (cs : List ℕ) → list_all (λ c. not (p c)
 fails_at_stop p [] all h = refl
 fails_at_stop p (c ∷ cs) all h = among (λ c. not (p c)) c (codes " \n()[],.:") h all
 
--- the longest front that passes ends where a byte fails
+-- the longest prefix that passes ends where a byte fails
 prefix_len-run : (p : ℕ → Bool) (xs rest : List ℕ) → list_all p xs ≡ true → fails_first p rest ≡ true → prefix_len p (xs ++ rest) ≡ length xs
 prefix_len-run p [] [] all fails = refl
 prefix_len-run p [] (c ∷ cs) all fails = let e = not-true (p c) fails in rw e refl

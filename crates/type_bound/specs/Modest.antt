@@ -14,7 +14,8 @@ use Rattle.search_spec.specs.State.{State, Setting, Command, process, mate, conf
 use Rattle.search_spec.specs.After.{state_after}
 use Rattle.refute_print.specs.Sizes.{nesting}
 
--- A constant's own type nests no deeper than so much, one less for a choice or a description: its predicate's type may be one of an equation.
+-- A constant's own type nests no deeper than so much, one less for a choice or a description: its predicate's type may be one of an
+-- equation.
 abbrev pub IsModestConstant : ℕ → Constant → Type 0
 IsModestConstant limit (name k) = Unit {0}
 IsModestConstant limit (witness k) = Unit {0}

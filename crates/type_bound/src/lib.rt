@@ -1,5 +1,5 @@
-//! How deep the types and the literals of a run nest: no deeper than those of its problem, and no deeper than a text's may. There is no code
-//! here; the laws stand as contracts of functions that do nothing.
+//! How deep the types and the literals of a run nest: no deeper than those of its problem, and no deeper than a text's may. There is no
+//! code here; the laws stand as contracts of functions that do nothing.
 #![tactic(auto)]
 
 mod law;

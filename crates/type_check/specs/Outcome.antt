@@ -1,8 +1,8 @@
--- What is read, or the first ill place.
+-- What is read, or the first type error.
 use Rattle.std.specs.Prelude.{ℕ, Result, Ok, Err}
 use Rattle.type_check.specs.declared.refusal.IllWhy.{IllWhy}
 
--- an ill node, by the byte place of its own token, and why it is ill
+-- a type error: the byte place of the token of the wrong node, and why it is wrong
 pub record IllPlace : Type 0 where
   pub at : ℕ
   pub why : IllWhy

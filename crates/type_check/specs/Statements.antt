@@ -97,7 +97,7 @@ read_known p s =
 abbrev pub read_statement : PlainProblem → AnnotatedTree → Result PlainProblem IllPlace
 read_statement p s = if is_role s.role then read_known p s else ill s.role_at RoleUnknown
 
--- an ill place of a problem's files
+-- a type error in a problem's files
 pub record IllInFile : Type 0 where
   pub file : ℕ
   pub at : ℕ
@@ -115,6 +115,6 @@ read_statements p (s ∷ statements) = in_file s.file (read_statement p s.statem
 abbrev pub empty_problem : PlainProblem
 empty_problem = record { declared = record { bases = []; consts = [] }; assumed = []; marked = []; conjecture = None }
 
--- What the statements of a problem say together, or the first ill place.
+-- What the statements of a problem say together, or the first type error.
 abbrev pub problem_of : List PlacedTree → Result PlainProblem IllInFile
 problem_of statements = read_statements empty_problem statements

@@ -1,5 +1,5 @@
 -- The terms that texts stand for, with their types. The parts of a node are read before the node: the left one, the right one, and of
--- a binder its types and its body. The first node that has no type is the ill place.
+-- a binder its types and its body. The first node that has no type is the place of the type error.
 use Rattle.std.specs.Prelude.{ℕ, zero, suc, Bool, List, [], ◌∷◌, Option, Some, None, Result, Ok, slice_get, option_map, if◌then◌else◌}
 use Rattle.std.specs.Str.{bytes_eq}
 use Rattle.stt_core.specs.SimpleType.{SimpleType, arrow, formula}

@@ -15,7 +15,7 @@ base_named at (Some (Base n)) = Ok (base n)
 base_named at (Some (Const k)) = ill at Unknown
 base_named at None = ill at Unknown
 
--- A type, with `$i` as base type number 1. The leftmost name that isn't a declared base type is the ill place.
+-- A type, with `$i` as base type number 1. The leftmost name that isn't a declared base type is a type error.
 abbrev pub read_type : Declarations → TypeTree → Result SimpleType IllPlace
 read_type d (form at) = Ok formula
 read_type d (indiv at) = Ok (base 1)

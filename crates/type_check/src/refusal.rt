@@ -6,7 +6,7 @@ ghost use Rattle.type_check.specs.declared.refusal.Refusal.TheVariants.{Memory};
 use std::alloc::{AllocError, AllocFailed};
 use thiserror::Error;
 
-/// Why a place is ill.
+/// What is wrong at the place of a type error.
 #[derive(Clone, Copy, Debug, PartialEq, Eq, Error)]
 pub enum IllWhy {
     /// A name that isn't declared or bound, a type's name used as a term, or a name in a type that is no declared base type.
@@ -29,7 +29,7 @@ pub enum IllWhy {
     RoleUnknown,
 }
 
-/// Why a statement isn't read: its first ill place, or want of memory.
+/// Why a statement isn't read: its first type error, or memory ran out.
 #[derive(Clone, Copy, Debug, PartialEq, Eq)]
 pub(crate) enum Refusal {
     At { at: u32, why: IllWhy },
@@ -52,8 +52,8 @@ impl<T: Drop> From<AllocFailed<T>> for Refusal {
     }
 }
 
-/// Why a problem isn't read: the first ill place of its first ill statement, with the number of that statement's file, or want of
-/// memory.
+/// Why a problem isn't read: the first type error of the first statement that has one, with the number of that statement's file; or
+/// memory ran out.
 #[derive(Clone, Copy, Debug, PartialEq, Eq, Error)]
 pub enum Ill {
     #[error("file {file}, byte {at}: {why}")]

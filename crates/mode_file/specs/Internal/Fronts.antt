@@ -1,4 +1,4 @@
--- What is behind a front of bytes.
+-- What is behind a prefix of bytes.
 use Rattle.std.specs.Prelude.{ℕ, ◌==◌, not, Bool}
 use Rattle.mode_file.specs.declared.bytes.ByteClass.{ByteClass}
 use Rattle.mode_file.specs.declared.bytes.ByteClass.TheVariants.{InLine, InWord, Space, Digit}

@@ -49,8 +49,8 @@ pub record IsTurn {S : Type 0} (At : Setting → ℕ → S → Type 0) (slots : 
 abbrev pub most_commands : ℕ
 most_commands = 1000000
 
--- Turns and runs that stand for a course, from which the schedule ends as from its start. No run has carried out more commands than it may at
--- most.
+-- Turns and runs that stand for a course, from which the schedule ends as from its start. No run has carried out more commands than it may
+-- at most.
 pub record StandsForCourse {S : Type 0} (At : Setting → ℕ → S → Type 0) (slots : List Slot) (start : List Literal) (entries : List (Entry Turn)) (pushes total : ℕ) (exhausted : Bool) (runs : List (Option S)) : Type 0 where
   pub course : Course
   pub turns_are : course.turns ≡ map waiting_of entries

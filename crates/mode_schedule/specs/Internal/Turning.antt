@@ -37,7 +37,8 @@ WhereLeft HasNoneLeft P = P
 WhereLeft IsAtLimit P = P
 WhereLeft turned P = Unit {0}
 
--- What a turn of a run came to that had carried out n commands: how it ended, and what holds of the run where it waits and where it is closed.
+-- What a turn of a run came to that had carried out n commands: how it ended, and what holds of the run where it waits and where it is
+-- closed.
 pub record TookTurn (At Left : ℕ → Type 0) (setting : Setting) (start : List Literal) (slice n : ℕ) (turned : Turned) (commands : ℕ) : Type 0 where
   pub ends : TurnEnds setting start slice n (n + commands) turned
   pub within : n + commands ≤ setting.mode.commands

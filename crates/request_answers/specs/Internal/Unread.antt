@@ -60,7 +60,7 @@ abbrev pub IsFilesAnswer : (PlainProblem → Answer → Type 0) → List ℕ →
 IsFilesAnswer Answers name told contents Memory = Unit {0}
 IsFilesAnswer Answers name told contents answer = (names : List (List ℕ)) × OfFiles name told contents names (AnswersEnding Answers names answer)
 
--- whether an answer is that a text is accepted; none where it is want of memory
+-- whether an answer is that a text is accepted; none where it is that memory ran out
 abbrev pub verdict_of : Answer → Option Bool
 verdict_of Memory = None
 verdict_of Accepted = Some true

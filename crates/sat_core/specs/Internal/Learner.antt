@@ -17,7 +17,8 @@ use Rattle.sat_core.specs.declared.learner.Answer.TheVariants.{Sat, Unsat, Spent
 use Rattle.sat_propagate.specs.Internal.Propagator.{IsPropagator, texts}
 use Rattle.sat_propagate.specs.declared.propagator.Propagator.{Propagator}
 
--- each clause of the propagator has the name of a clause or result that it is; the variables of clauses and results are made, and have marks
+-- each clause of the propagator has the name of a clause or result that it is; the variables of clauses and results are made, and have
+-- marks
 pub record IsNamedPropagator (clauses results : List (List SatLit)) (propagator : Propagator) (names : List Premise) (marks : List Bool) : Type 0 where
   pub right : IsPropagator propagator.trail propagator.processed propagator.clauses.items propagator.lists
   pub named : AreNamedPremises clauses results names propagator.clauses.items

@@ -6,8 +6,8 @@ use Rattle.stt_core.specs.SimpleType.{SimpleType, base, arrow}
 use Rattle.stt_core.specs.Lambda.{Constant, name, witness, falsity, negation, implication, all, equality, choice, description, Lambda, bound, constant, lam, app}
 use Rattle.term_bank.specs.Shape.{Shape, abstraction, spine}
 
--- A number of 64 bits from two others. That a number times one more than twice it is a permutation is from RC6 (Rivest, Robshaw, Sidney, Yin,
--- The RC6 block cipher, 1998).
+-- A number of 64 bits from two others. That a number times one more than twice it is a permutation is from RC6 (Rivest, Robshaw, Sidney,
+-- Yin, The RC6 block cipher, 1998).
 abbrev pub stirred : ℕ → ℕ
 stirred z = (z * ((z * 2) % 2 ^ 64 + 1) % 2 ^ 64) % 2 ^ 64
 

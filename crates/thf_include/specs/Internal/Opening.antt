@@ -10,7 +10,7 @@ pub record IsTooLong (tells : Bool) (contents : List ℕ → Option (List ℕ)) 
   pub told : IsTrue tells → contents name ≡ Some text
   pub longer : left < length text
 
--- the file of this name, which has the next number, isn't read: it has a fault, or more bytes than are left; or memory is wanted, before
+-- the file of this name, which has the next number, isn't read: it has a fault, or more bytes than are left; or memory runs out, before
 -- or after it is opened
 abbrev pub IsReadRefusal : Bool → (List ℕ → Option (List ℕ)) → List ℕ → List (List ℕ) → List (List ℕ) → ℕ → GatherRefused → Type 0
 IsReadRefusal tells contents name before after left (Fault file) = (file ≡ length before) × (after ≡ before ++ name ∷ [])

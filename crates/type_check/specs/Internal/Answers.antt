@@ -4,7 +4,7 @@ use Rattle.type_check.specs.Outcome.{IllPlace}
 use Rattle.type_check.specs.declared.refusal.Refusal.{Refusal}
 use Rattle.type_check.specs.declared.refusal.Refusal.TheVariants.{At, Memory}
 
--- The refusal is the one that is defined, or want of memory, which may come anywhere.
+-- The refusal is the one that is defined, or that memory ran out, which may happen anywhere.
 abbrev pub RefusesAt : {B : Type 0} → Refusal → Result B IllPlace → Type 0
 RefusesAt (At at why) defined = defined ≡ Err (record { at = at; why = why })
 RefusesAt Memory defined = Unit {0}
