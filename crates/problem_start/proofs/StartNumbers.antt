@@ -24,7 +24,7 @@ use Rattle.bank_normal.specs.declared.forms.FormId.{FormId}
 use Rattle.bank_normal.proofs.FormLaws.{forms_grown}
 use Rattle.literal_map.specs.Atoms.{bank_literal, IsAtom, Begins}
 use Rattle.literal_map.proofs.StayLaws.{literals_same}
-use Rattle.problem_start.specs.Unfolds.{unfolded_if, definitions_if, left_if, start_literals, literal_by, denied_by, AreStartNumbers, formulas_at}
+use Rattle.problem_start.specs.Unfolds.{unfolded_if, definitions_if, left_if, start_literals, normal_literal_by, denied_by, AreStartNumbers, formulas_at}
 
 -- TABLES THAT GROW
 
@@ -61,8 +61,8 @@ numbers_push b xs ls ns more l n h w is e =
     })
 
 -- the literal of one formula more, over what has grown since names were given
-pub literal_grown : (a b : Content) → Grows a b → (fs : List FormId) → AreForms a fs → (t : Lambda) → literal_by (content_scope b) (forms_in b.terms fs) t ≡ literal_by (content_scope a) (forms_in a.terms fs) t
-literal_grown a b g fs h t = ap₂ (λ s ds. literal_by s ds t) (grown_scope a b g) (forms_grown a b fs g h)
+pub literal_grown : (a b : Content) → Grows a b → (fs : List FormId) → AreForms a fs → (t : Lambda) → normal_literal_by (content_scope b) (forms_in b.terms fs) t ≡ normal_literal_by (content_scope a) (forms_in a.terms fs) t
+literal_grown a b g fs h t = ap₂ (λ s ds. normal_literal_by s ds t) (grown_scope a b g) (forms_grown a b fs g h)
 
 -- the formulas of the places so far, with one place more
 pub formulas_more : (ts : List Lambda) (places : List ℕ) (j i : ℕ) (t : Lambda) → slice_get places j ≡ Some i → slice_get ts i ≡ Some t → formulas_at ts (take (j + 1) places) ≡ formulas_at ts (take j places) ++ t ∷ []
@@ -76,7 +76,7 @@ place_within n places j i h e = subst (λ k. k < n) (get_or_from_slice_get place
 
 -- THE START
 
-normal_literals : (scope : Scope) (ds : List Definition) → AreTypedDefinitions scope ds → (ts : List Lambda) → map (literal_by scope (normal_definitions scope ds)) ts ≡ map (normal_literal scope) (map (unfolded ds) ts)
+normal_literals : (scope : Scope) (ds : List Definition) → AreTypedDefinitions scope ds → (ts : List Lambda) → map (normal_literal_by scope (normal_definitions scope ds)) ts ≡ map (normal_literal scope) (map (unfolded ds) ts)
 normal_literals scope ds h [] = refl
 normal_literals scope ds h (t ∷ ts) = ap₂ (λ l ls. l ∷ ls) (ap as_literal (sym (normal_form-unfolded scope [] ds t h))) (normal_literals scope ds h ts)
 
@@ -84,7 +84,7 @@ normal_denied : (scope : Scope) (ds : List Definition) → AreTypedDefinitions s
 normal_denied scope ds h None = refl
 normal_denied scope ds h (Some t) = ap (λ u. opposite (as_literal u) ∷ []) (sym (normal_form-unfolded scope [] ds t h))
 
-plain_literals : (scope : Scope) (ts : List Lambda) → map (literal_by scope []) ts ≡ map (normal_literal scope) ts
+plain_literals : (scope : Scope) (ts : List Lambda) → map (normal_literal_by scope []) ts ≡ map (normal_literal scope) ts
 plain_literals scope [] = refl
 plain_literals scope (t ∷ ts) = ap₂ (λ l ls. l ∷ ls) (ap as_literal (normal_form-by-none scope [] t)) (plain_literals scope ts)
 
@@ -93,17 +93,17 @@ plain_denied scope None = refl
 plain_denied scope (Some t) = ap (λ u. opposite (as_literal u) ∷ []) (normal_form-by-none scope [] t)
 
 -- the literals by the normal forms of the definitions are those of the start
-pub start_is : (b : Bool) (p : PlainProblem) → AreTypedDefinitions (scope_of p.declared) (definitions_if b p) → map (literal_by (scope_of p.declared) (normal_definitions (scope_of p.declared) (definitions_if b p))) (left_if b p) ++ denied_by (scope_of p.declared) (normal_definitions (scope_of p.declared) (definitions_if b p)) p.conjecture ≡ start_literals (unfolded_if b p)
+pub start_is : (b : Bool) (p : PlainProblem) → AreTypedDefinitions (scope_of p.declared) (definitions_if b p) → map (normal_literal_by (scope_of p.declared) (normal_definitions (scope_of p.declared) (definitions_if b p))) (left_if b p) ++ denied_by (scope_of p.declared) (normal_definitions (scope_of p.declared) (definitions_if b p)) p.conjecture ≡ start_literals (unfolded_if b p)
 start_is true p h = ap₂ (λ ls ks. ls ++ ks) (normal_literals (scope_of p.declared) (definitions_if true p) h (left_if true p)) (normal_denied (scope_of p.declared) (definitions_if true p) h p.conjecture)
 start_is false p h = ap₂ (λ ls ks. ls ++ ks) (plain_literals (scope_of p.declared) p.assumed) (plain_denied (scope_of p.declared) p.conjecture)
 
 -- the same over a bank that grew since names were given
 pub whole_start : (b : Bool) (p : PlainProblem) (u m : Content) (fs : List FormId) (ts : List Lambda) (o : Option Lambda) → content_scope u ≡ scope_of p.declared → Grows u m → AreForms u fs → forms_in u.terms fs ≡ normal_definitions (content_scope u) (definitions_if b p) → AreTypedDefinitions (content_scope u) (definitions_if b p) → ts ≡ left_if b p → o ≡ p.conjecture
-    → map (literal_by (content_scope u) (forms_in u.terms fs)) ts ++ denied_by (content_scope m) (forms_in m.terms fs) o ≡ start_literals (unfolded_if b p)
+    → map (normal_literal_by (content_scope u) (forms_in u.terms fs)) ts ++ denied_by (content_scope m) (forms_in m.terms fs) o ≡ start_literals (unfolded_if b p)
 whole_start b p u m fs ts o scope g forms definitions typed left conjecture =
     let ds = definitions_if b p in
     let by = definitions ∙ ap (λ s. normal_definitions s ds) scope in
     ap₂ (λ ls ks. ls ++ ks)
-    (ap₂ (λ s es. map (literal_by s es) ts) scope by ∙ ap (map (literal_by (scope_of p.declared) (normal_definitions (scope_of p.declared) ds))) left)
+    (ap₂ (λ s es. map (normal_literal_by s es) ts) scope by ∙ ap (map (normal_literal_by (scope_of p.declared) (normal_definitions (scope_of p.declared) ds))) left)
     (ap₂ (λ s es. denied_by s es o) (grown_scope u m g ∙ scope) (forms_grown u m fs g forms ∙ by) ∙ ap (denied_by (scope_of p.declared) (normal_definitions (scope_of p.declared) ds)) conjecture)
     ∙ start_is b p (subst (λ s. AreTypedDefinitions s ds) scope typed)

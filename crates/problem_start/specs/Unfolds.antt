@@ -38,13 +38,13 @@ abbrev pub start_literals : PlainProblem → List Literal
 start_literals p = map (normal_literal (scope_of p.declared)) p.assumed ++ denied (scope_of p.declared) p.conjecture
 
 -- the literal of a formula's normal form by definitions
-abbrev pub literal_by : Scope → List Definition → Lambda → Literal
-literal_by scope ds t = as_literal (normal_form_by scope ds [] t)
+abbrev pub normal_literal_by : Scope → List Definition → Lambda → Literal
+normal_literal_by scope ds t = as_literal (normal_form_by scope ds [] t)
 
 -- the negation of the conjecture's, where there is one
 abbrev pub denied_by : Scope → List Definition → Option Lambda → List Literal
 denied_by scope ds None = []
-denied_by scope ds (Some t) = opposite (literal_by scope ds t) ∷ []
+denied_by scope ds (Some t) = opposite (normal_literal_by scope ds t) ∷ []
 
 -- the numbers are those of atoms, and the literals these
 pub record AreStartNumbers (b : Content) (atoms : List ℕ) (ls : List Literal) (ns : List SatLit) : Type 0 where

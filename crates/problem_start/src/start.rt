@@ -9,7 +9,7 @@ ghost use Rattle.term_bank.specs.Content.{Grows, content_scope};
 ghost use Rattle.bank_normal.specs.Forms.{forms_in, AreForms};
 ghost use Rattle.bank_normal.specs.Right.{IsRightNormaliser};
 ghost use Rattle.literal_map.specs.Atoms.{IsAtom, Begins};
-ghost use Rattle.problem_start.specs.Unfolds.{unfolded_if, start_literals, literal_by, denied_by, formulas_at, AreStartNumbers};
+ghost use Rattle.problem_start.specs.Unfolds.{unfolded_if, start_literals, normal_literal_by, denied_by, formulas_at, AreStartNumbers};
 
 use crate::formula::formula_literal_by;
 use crate::unfolding::unfolding_of;
@@ -35,7 +35,7 @@ fn numbers_at(
     requires forms { AreForms bank.old forms.now }
     requires right { IsRightNormaliser normal.old bank.old }
     requires atoms { All (IsAtom bank.old) lits.old }
-    ensures numbers { IfOk result (λ ns. AreStartNumbers bank.new lits.new (map (literal_by (content_scope bank.old) (forms_in bank.old.terms forms.now)) (formulas_at formulas.now places.now)) ns.items) }
+    ensures numbers { IfOk result (λ ns. AreStartNumbers bank.new lits.new (map (normal_literal_by (content_scope bank.old) (forms_in bank.old.terms forms.now)) (formulas_at formulas.now places.now)) ns.items) }
     ensures grows { Grows bank.old bank.new }
     ensures right { IsRightNormaliser normal.new bank.new }
     ensures begins { Begins lits.old lits.new }

@@ -8,7 +8,7 @@ use Rattle.term_bank.specs.Content.{content_scope}
 use Rattle.term_bank.proofs.GrowLaws.{grows_on, grown_scope}
 use Rattle.bank_normal.specs.Forms.{forms_in}
 use Rattle.bank_normal.proofs.FormLaws.{are_forms_grown}
-use Rattle.problem_start.specs.Unfolds.{literal_by, formulas_at, AreStartNumbers}
+use Rattle.problem_start.specs.Unfolds.{normal_literal_by, formulas_at, AreStartNumbers}
 use Rattle.problem_start.proofs.StartNumbers.{begins_on, numbers_grown, numbers_push, literal_grown, formulas_more}
 use Rattle.problem_start.proofs.start.numbers_at.Goals as goal
 
@@ -46,7 +46,7 @@ loop-j-preserved c =
     let j = c.loop-j.j in
     let ts = c.args.formulas.now in
     let t = the_term c.at-formula.result.now in
-    let f = literal_by (content_scope a) (forms_in a.terms c.args.forms.now) in
+    let f = normal_literal_by (content_scope a) (forms_in a.terms c.args.forms.now) in
     let done = formulas_at ts (take j places) in
     let ns = c.loop-j.numbers.items in
     let more = c.push.new.self.items in

@@ -5,7 +5,7 @@ use Rattle.term_bank.specs.Content.{content_scope}
 use Rattle.term_bank.proofs.GrowLaws.{grown_scope}
 use Rattle.bank_normal.specs.Forms.{forms_in}
 use Rattle.bank_normal.proofs.FormLaws.{are_forms_grown}
-use Rattle.problem_start.specs.Unfolds.{literal_by, formulas_at, AreStartNumbers}
+use Rattle.problem_start.specs.Unfolds.{normal_literal_by, formulas_at, AreStartNumbers}
 use Rattle.problem_start.proofs.StartNumbers.{whole_start}
 use Rattle.problem_start.proofs.start.start_numbers.Goals as goal
 
@@ -26,4 +26,4 @@ returns-clause-numbers c =
     let conjecture = ap (λ (q : PlainProblem). q.conjecture) c.problem.view_is in
     subst (λ ls. AreStartNumbers c.with_denied.new.bank c.with_denied.new.lits ls c.in_ok-with_denied.field-0.items)
     (whole_start c.args.unfolds p u m fs ts (option_map the_term c.problem.inside.conjecture) scope c.in_ok-numbers.ensures.grows w.definitions.forms w.definitions.definitions w.definitions.typed left conjecture)
-    (c.in_ok-with_denied.ensures.numbers (map (literal_by (content_scope u) (forms_in u.terms fs)) ts) c.in_ok-numbers.ensures.numbers)
+    (c.in_ok-with_denied.ensures.numbers (map (normal_literal_by (content_scope u) (forms_in u.terms fs)) ts) c.in_ok-numbers.ensures.numbers)
