@@ -1,4 +1,4 @@
--- Closed tableaux (Brown and Smolka 2010, section 4), and the tableau of a refutation.
+-- Closed tableaux (Brown and Smolka 2010), and the tableau of a refutation.
 use Rattle.std.specs.Prelude.{ℕ, List, [], ◌∷◌, ◌++◌, Option, Some, None, slice_get, unwrap_or}
 use Rattle.stt_core.specs.Typing.{Scope}
 use Rattle.tableau_calculus.specs.Literals.{Literal}

@@ -1,5 +1,5 @@
--- Literals: formulas with a sign (Brown and Smolka, Analytic tableaux for simple type theory and its first-order fragment, 2010,
--- section 3).
+-- Literals: formulas with a sign. As in Brown and Smolka, Analytic tableaux for simple type theory and its first-order fragment, 2010, all
+-- formulas are normal forms; the sign is this project's form of an outer negation.
 use Rattle.std.specs.Prelude.{◌≡◌, Bool, true, false, not, List, [], ◌∷◌}
 use Rattle.stt_core.specs.SimpleType.{formula}
 use Rattle.stt_core.specs.Lambda.{Lambda, constant, app, negation}

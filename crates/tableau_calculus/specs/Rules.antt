@@ -1,5 +1,9 @@
--- The rules of the calculus (Brown and Smolka 2010, section 4; Backes and Brown, Analytic tableaux for higher-order logic with choice,
--- 2011, section 3). The rule for descriptions and the cut are this project's own.
+-- The rules of the calculus. Sources: Brown and Smolka, Analytic tableaux for simple type theory and its first-order fragment, 2010: how a
+-- literal and its negation, and a negated equation of a term with itself, close a branch; equations of formulas (BQ, BE) and of functions
+-- (FQ, FE; here the alternative is a quantified formula); mating (MAT), decomposition (DEC) and confrontation (CON). Backes and Brown,
+-- Analytic tableaux for higher-order logic with choice, 2011: quantifiers (here with any term, and with a witness for a new name), a choice
+-- as the head in mating and decomposition, choice. The rules for falsity and implication are this project's form of the rules for
+-- connectives there. A description as the head, the rule for descriptions, and the cut are this project's own.
 use Rattle.std.specs.Prelude.{◌≡◌, ℕ, suc, List, [], ◌∷◌, Some, slice_get}
 use Rattle.stt_core.specs.SimpleType.{SimpleType, base, arrow, formula, predicate}
 use Rattle.stt_core.specs.Lambda.{Constant, name, witness, falsity, negation, implication, all, equality, choice, description, Lambda, bound, constant, lam, app, neg, imp, eq, every, applied}
