@@ -10,42 +10,6 @@ other=${1-}
 folder=$(mktemp -d)
 trap 'rm -r "$folder"' EXIT
 
-# N + 1 pigeons in N holes: each sits in one, and no two in the same one.
-pigeons() {
-  python3 - "$1" <<'PYTHON'
-import sys
-holes = int(sys.argv[1])
-for i in range(holes + 1):
-    for j in range(holes):
-        print(f"thf(p{i}_{j}_type,type,p{i}_{j}: $o).")
-for i in range(holes + 1):
-    print(f"thf(a{i},axiom,( {' | '.join(f'p{i}_{j}' for j in range(holes))} )).")
-for j in range(holes):
-    for a in range(holes + 1):
-        for b in range(a):
-            print(f"thf(b{j}_{a}_{b},axiom,( ~ p{a}_{j} | ~ p{b}_{j} )).")
-PYTHON
-}
-
-# A successor that is one to one and misses zero: nothing contradicts, and the search goes on for ever.
-injection() {
-  echo 'thf(z,type,z: $i).'
-  echo 'thf(s,type,s: $i > $i).'
-  echo 'thf(one,axiom,( ! [X:$i,Y:$i] : ( ( ( s @ X ) = ( s @ Y ) ) => ( X = Y ) ) )).'
-  echo 'thf(miss,axiom,( ! [X:$i] : ( ( s @ X ) != z ) )).'
-}
-
-# Quantifiers over functions and predicates of four types: the search makes many partial terms.
-partial() {
-  echo 'thf(f,type,f: $i > $i > $i).'
-  echo 'thf(c,type,c: $i).'
-  echo 'thf(p,type,p: ( $i > $i ) > ( $i > $o ) > $o).'
-  echo 'thf(q,type,q: ( $i > $i > $i ) > $i > $o).'
-  echo 'thf(a,axiom,( ! [G:$i > $i,P:$i > $o] : ( ( p @ G @ P ) => ( P @ ( G @ c ) ) ) )).'
-  echo 'thf(b,axiom,( ! [H:$i > $i > $i,X:$i] : ( ( q @ H @ X ) => ? [Y:$i] : ( q @ ( ^ [U:$i,V:$i] : ( H @ V @ U ) ) @ Y ) ) )).'
-  echo 'thf(g,conjecture,( ? [H:$i > $i > $i] : ! [X:$i] : ( q @ H @ ( f @ X @ c ) ) )).'
-}
-
 # Adds the seconds and the kilobytes of one run of a command to a file, whatever its status: run FILE COMMAND ..
 run() { /usr/bin/time -q -a -o "$1" -f '%U %S %M' "${@:2}" >/dev/null 2>&1 || true; }
 
@@ -74,22 +38,19 @@ tell() { awk -v what="$1" -v ours="$2" -v others="$3" 'BEGIN {
   if (others != "") { split(others, b); line = line sprintf("; the other %s s, %s MB", b[1], b[2]); if (b[1] > 0) line = line sprintf(", %.2f times", a[1] / b[1]) }
   print line }'; }
 
-for holes in 6 8; do pigeons "$holes" >"$folder/pigeons$holes.p"; done
-injection >"$folder/injection.p"
-partial >"$folder/partial.p"
-echo 'commands 1000000' >"$folder/million.mode"
+python3 "$top/bench/problems.py" "$folder"
+python3 "$top/bench/solver_problems.py" "$folder"
 "$program" "$folder/pigeons8.p" >"$folder/pigeons8.txt"
 "$program" "$folder/pigeons6.p" >"$folder/pigeons6.txt"
 
 call 5 'nine pigeons, proved and written' "$folder/pigeons8.p"
-python3 "$top/bench/solver_problems.py" "$folder"
 if command -v minisat >/dev/null; then beside 'minisat, their clauses' minisat -verb=0 "$folder/pigeons9.cnf" /dev/null; fi
 if command -v cvc5 >/dev/null; then beside 'cvc5, the same file, no proof' cvc5 --lang=tptp "$folder/pigeons8.p"; fi
 call 5 "nine pigeons, checked, $(wc -c <"$folder/pigeons8.txt") bytes of text" --check "$folder/pigeons8.txt" "$folder/pigeons8.p"
 call 5 "seven pigeons, checked, $(wc -c <"$folder/pigeons6.txt") bytes of text" --check "$folder/pigeons6.txt" "$folder/pigeons6.p"
-call 5 '20,000 commands of the injection' "$folder/injection.p"
-call 3 '1,000,000 commands of it' --mode "$folder/million.mode" "$folder/injection.p"
-call 5 '20,000 commands with many partial terms' "$folder/partial.p"
-call 3 '1,000,000 commands of them' --mode "$folder/million.mode" "$folder/partial.p"
+call 5 '20,000 commands of inj.p' "$folder/inj.p"
+call 3 '1,000,000 commands of it' --mode "$folder/c1000000.mode" "$folder/inj.p"
+call 5 '20,000 commands of partial.p' "$folder/partial.p"
+call 3 '1,000,000 commands of it' --mode "$folder/c1000000.mode" "$folder/partial.p"
 call 5 '--demo 200' --demo 200
 call 5 '--demo 1000' --demo 1000
