@@ -15,10 +15,9 @@ SOURCES = {
     "tableau_calculus": ["lit", "refutation"],
     "literal_map": ["instance"],
     "tableau_clauses": ["origin"],
-    "refute_print": ["fits"],
     "tableau_rebuild": [
-        "draft", "arena", "packed_branch", "branch", "literals", "line", "needed", "lines", "numbering", "pool", "reached", "rows", "walk",
-        "refutation",
+        "draft", "arena", "packed_branch", "branch", "literals", "line", "needed", "in_range", "lines", "numbering", "pool", "reached", "rows",
+        "walk", "refutation",
     ],
 }
 
