@@ -6,3 +6,4 @@ pub mod Body
 pub mod Parts
 pub mod LiftedHeads
 pub mod FindingForms
+pub mod Connectives

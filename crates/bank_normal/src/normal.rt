@@ -1,10 +1,10 @@
 //! Normal forms of typed terms.
 
-ghost use Rattle.std.specs.Prelude.{◌≡◌, ◌<◌, [], length, map, IfOk, IsSome, All};
+ghost use Rattle.std.specs.Prelude.{◌≡◌, ◌<◌, [], true, length, map, IfOk, IsSome, All};
 ghost use Rattle.stt_core.specs.ContextView.{the_context};
 ghost use Rattle.stt_core.specs.Lambda.{IsLeaf};
 ghost use Rattle.stt_core.specs.Typing.{type_of};
-ghost use Rattle.stt_core.specs.View.{the_term, the_type};
+ghost use Rattle.stt_core.specs.View.{the_head, the_term, the_type};
 ghost use Rattle.normal_forms.specs.Normal.{apply_each, normal_form};
 ghost use Rattle.normal_forms.specs.Internal.Applying.{IsApplicable, result_after};
 ghost use Rattle.term_bank.specs.Content.{content_scope, HasTerm, Grows};
@@ -13,12 +13,13 @@ ghost use Rattle.delta_defs.specs.Definitions.{unfolded};
 ghost use Rattle.delta_normal.specs.Forms.{normal_form_by};
 ghost use Rattle.bank_normal.specs.Right.{IsRightNormaliser};
 ghost use Rattle.bank_normal.specs.Forms.{forms_in, AreForms};
+ghost use Rattle.bank_normal.specs.Internal.Connectives.{MakesFormula};
 
 use crate::forms::Forms;
 use crate::normaliser::Normaliser;
 use crate::replace::LEVELS;
 use std::alloc::AllocError;
-use stt_core::{Context, Term, Ty};
+use stt_core::{Context, Head, Term, Ty};
 use term_bank::{Bank, Id, Ids};
 
 /// The type of what a function of this type gives at `n` arguments.
@@ -31,6 +32,18 @@ fn outcome(ty: &Ty, n: usize) -> &Ty
     match ty {
         Ty::Arrow(_, rest) => outcome(rest, n - 1),
         Ty::Base(_) => ty,
+    }
+}
+
+/// Whether a head makes a formula with `n` arguments, as a connective or an equation with all of its own does.
+fn makes_formula(head: &Head, n: usize) -> bool
+    ensures { result ≡ true → MakesFormula (the_head head.now) n }
+{
+    match head {
+        Head::False => n == 0,
+        Head::Not | Head::All(_) => n == 1,
+        Head::Imp | Head::Eq(_) => n == 2,
+        _ => false,
     }
 }
 
@@ -68,7 +81,7 @@ impl Normaliser {
         Ok(self.normal_applied(bank, forms, &Context::Empty, term, none)?)
     }
 
-    /// The normal form of a variable or a constant that is applied to arguments.
+    /// The normal form of a variable or a constant that is applied to arguments. For most formulas no type is made.
     #[inline(never)]
     fn normal_head(
         &mut self,
@@ -86,6 +99,9 @@ impl Normaliser {
         ensures right { IsRightNormaliser self.new bank.new }
     {
         let head = term.to_head(self.alloc)?;
+        if makes_formula(&head, args.len()) {
+            return Ok(self.eta_once(bank, &Ty::Base(0), head, args)?);
+        }
         match bank.head_type(ctx, &head)? {
             Some(ty) => Ok(self.eta_once(bank, outcome(&ty, args.len()), head, args)?),
             None => unreachable!(),

@@ -7,6 +7,7 @@ mod MoreDeclared
 mod OutcomeLaws
 pub mod ProblemLaws
 mod RowTypes
+mod ScopeLaws
 mod StatementLaws
 mod Symbols
 mod TreeSizes

@@ -2,7 +2,6 @@
 #![tactic(auto)]
 
 mod declared;
-mod lift;
 mod nodes;
 mod problem;
 mod refusal;

@@ -1,14 +1,16 @@
 //! Nodes of formulas over parts that are read.
 
+ghost use Rattle.std.specs.Prelude.{true};
 ghost use Rattle.stt_core.specs.View.{the_type, the_term};
 ghost use Rattle.type_check.specs.Internal.Answers.{AnswersCheck};
 ghost use Rattle.type_check.specs.Internal.Infixes as infixes;
+ghost use Rattle.type_check.specs.Internal.Quantifiers.{typed_somewhere};
 ghost use Rattle.type_check.specs.Terms as defined;
 ghost use Rattle.type_check.specs.Internal.TypedView.{the_typed};
 
 use crate::refusal::{IllWhy, Refusal};
-use crate::rows::{for_all, for_some, join, quantify, signed};
-use crate::term::{app, eq, lam, neg};
+use crate::rows::{for_all, for_some, join, signed};
+use crate::term::{app, eq, every, lam, neg};
 use crate::typed::{TypeOf, Typed};
 use std::alloc::Global;
 use stt_core::{Term, Ty};
@@ -111,20 +113,34 @@ pub(crate) fn combined<'a>(
     }
 }
 
-/// `!! @`, or `?? @` where not all are meant.
-pub(crate) fn quantified(
-    alloc: Global,
-    at: u32,
-    all: bool,
-    x: Typed,
-) -> Result<Typed<'static>, Refusal>
-    ensures { AnswersCheck the_typed result (defined.typed_quantifier at all (the_typed x.entry)) }
+/// `!! @`.
+pub(crate) fn everywhere(alloc: Global, at: u32, x: Typed) -> Result<Typed<'static>, Refusal>
+    ensures { AnswersCheck the_typed result (defined.typed_quantifier at true (the_typed x.entry)) }
 {
     match x.ty.into_domain(alloc)? {
         Some(a) => Ok(Typed {
-            term: quantify(alloc, all, a, x.term)?,
+            term: every(alloc, a, x.term)?,
             ty: TypeOf::Made(Ty::Base(0)),
         }),
+        None => Err(Refusal::At {
+            at,
+            why: IllWhy::Mismatch,
+        }),
+    }
+}
+
+/// `?? @`, of a predicate that stands within the binder of the value at which it holds.
+pub(crate) fn somewhere(alloc: Global, at: u32, x: Typed) -> Result<Typed<'static>, Refusal>
+    ensures { AnswersCheck the_typed result (typed_somewhere at (the_typed x.entry)) }
+{
+    match x.ty.into_domain(alloc)? {
+        Some(a) => {
+            let holds = app(alloc, x.term, Term::Bound(0))?;
+            Ok(Typed {
+                term: for_some(alloc, a, holds)?,
+                ty: TypeOf::Made(Ty::Base(0)),
+            })
+        }
         None => Err(Refusal::At {
             at,
             why: IllWhy::Mismatch,

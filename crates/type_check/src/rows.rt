@@ -4,8 +4,7 @@ ghost use Rattle.std.specs.Prelude.{◌≡◌, IfOk};
 ghost use Rattle.stt_core.specs.View.{the_type, the_term};
 ghost use Rattle.type_check.specs.Rows as defined;
 
-use crate::lift::lift;
-use crate::term::{app, eq, every, imp, lam, neg};
+use crate::term::{eq, every, imp, lam, neg};
 use std::alloc::{AllocError, Global};
 use stt_core::{Term, Ty};
 use thf_grammar::Conn;
@@ -77,17 +76,4 @@ pub(crate) fn for_some(alloc: Global, a: Ty, s: Term) -> Result<Term, AllocError
     let fails = neg(alloc, s)?;
     let none = for_all(alloc, a, fails)?;
     neg(alloc, none)
-}
-
-/// That the predicate `s` on type `a` holds everywhere, where all are meant, or else somewhere.
-pub(crate) fn quantify(alloc: Global, all: bool, a: Ty, s: Term) -> Result<Term, AllocError>
-    ensures { IfOk result (λ t. the_term t ≡ defined.quantify all (the_type a) (the_term s)) }
-{
-    if all {
-        return every(alloc, a, s);
-    }
-    let mut lifted = s;
-    lift(0, &mut lifted)?;
-    let holds = app(alloc, lifted, Term::Bound(0))?;
-    for_some(alloc, a, holds)
 }

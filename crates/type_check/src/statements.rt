@@ -9,8 +9,7 @@ ghost use Rattle.type_check.specs.Internal.ReadingView.{the_reading};
 
 use crate::declared::Declared;
 use crate::refusal::{IllWhy, Refusal};
-use crate::scope::Scope;
-use crate::terms::read_term;
+use crate::terms::read_closed;
 use crate::types::read_type;
 use outside::Bytes;
 use std::alloc::{AllocError, Global};
@@ -77,7 +76,7 @@ fn own_place(tree: &Surface) -> u32
 fn read_formula(alloc: Global, declared: &Declared, tree: &Surface) -> Result<Term, Refusal>
     ensures { AnswersCheck the_term result (defined.read_formula declared.now (the_formula tree.now)) }
 {
-    let x = read_term(alloc, declared, &Scope::Empty, tree)?;
+    let x = read_closed(alloc, declared, tree)?;
     if x.ty.get().same(&Ty::Base(0)) {
         Ok(x.term)
     } else {

@@ -1,20 +1,21 @@
 //! The terms that texts stand for.
 
-ghost use Rattle.std.specs.Prelude.{◌≡◌, IfOk, option_map};
+ghost use Rattle.std.specs.Prelude.{◌≡◌, [], IfOk, option_map};
 ghost use Rattle.stt_core.specs.SimpleType.{arrow, formula};
 ghost use Rattle.stt_core.specs.View.{the_type};
 ghost use Rattle.thf_grammar.specs.View.{the_formula, the_vars};
 ghost use Rattle.type_check.specs.Internal.Answers.{AnswersCheck};
-ghost use Rattle.type_check.specs.Internal.Infixes as infixes;
+ghost use Rattle.type_check.specs.Internal.Infixes.{read_infix};
 ghost use Rattle.type_check.specs.Rows as rows;
 ghost use Rattle.type_check.specs.Typed.{typed};
 ghost use Rattle.thf_grammar.specs.declared.connective.Conn.TheVariants as conn;
 ghost use Rattle.type_check.specs.Terms as defined;
-ghost use Rattle.type_check.specs.Internal.ScopeView.{the_variables};
+ghost use Rattle.type_check.specs.Internal.ScopeView.{the_scope, AnswersIn};
+ghost use Rattle.type_check.specs.Internal.Quantifiers.{read_negation, read_quantifier, read_bound};
 ghost use Rattle.type_check.specs.Internal.TypedView.{the_typed};
 
 use crate::declared::Declared;
-use crate::nodes::{Infix, bind, combined, negated, quantified};
+use crate::nodes::{Infix, bind, combined, everywhere, negated, somewhere};
 use crate::refusal::{IllWhy, Refusal};
 use crate::rows::{join, truth_value};
 use crate::scope::Scope;
@@ -96,25 +97,22 @@ fn operator(alloc: Global, connective: Conn) -> Result<Typed<'static>, AllocErro
     }
 }
 
-/// Reads a term under the variables in scope.
+/// Reads a term under the binders around it.
 #[cycle(terms)]
-pub(crate) fn read_term<'a>(
+fn read_term<'a>(
     alloc: Global,
     declared: &'a Declared,
     scope: &Scope<'a>,
     tree: &Surface,
 ) -> Result<Typed<'a>, Refusal>
-    ensures { AnswersCheck the_typed result (defined.read_term declared.now (the_variables scope.now) (the_formula tree.now)) }
+    ensures { AnswersIn (the_scope scope.now) (λ vars. defined.read_term declared.now vars (the_formula tree.now)) result }
 {
     match tree {
         Surface::Name { at, name } => known(*at, declared.constant(name)),
         Surface::Var { at, name } => known(*at, scope.variable(0, name.as_slice())?),
         Surface::Truth { value, .. } => Ok(truth(alloc, *value)?),
         Surface::Op { conn, .. } => Ok(operator(alloc, *conn)?),
-        Surface::Not { at, body } => {
-            let x = read_term(alloc, declared, scope, body)?;
-            negated(alloc, *at, x)
-        }
+        Surface::Not { at, body } => read_negated(alloc, declared, scope, *at, body),
         Surface::Binary {
             at,
             conn,
@@ -134,8 +132,7 @@ pub(crate) fn read_term<'a>(
             read_infix(alloc, declared, scope, *at, Infix::Application, fun, arg)
         }
         Surface::Quant { at, all, arg } => {
-            let x = read_term(alloc, declared, scope, arg)?;
-            quantified(alloc, *at, *all, x)
+            read_quantified(alloc, declared, scope, *at, *all, arg)
         }
         Surface::Bind {
             at,
@@ -144,6 +141,21 @@ pub(crate) fn read_term<'a>(
             body,
         } => read_binder(alloc, declared, scope, *at, *binder, vars.as_slice(), body),
     }
+}
+
+/// Reads a formula that is denied.
+#[cycle(terms)]
+fn read_negated<'a>(
+    alloc: Global,
+    declared: &'a Declared,
+    scope: &Scope<'a>,
+    at: u32,
+    body: &Surface,
+) -> Result<Typed<'static>, Refusal>
+    ensures { AnswersIn (the_scope scope.now) (read_negation declared.now at (the_formula body.now)) result }
+{
+    let x = read_term(alloc, declared, scope, body)?;
+    negated(alloc, at, x)
 }
 
 /// Reads two operands, and what stands between them.
@@ -157,11 +169,32 @@ fn read_infix<'a>(
     left: &Surface,
     right: &Surface,
 ) -> Result<Typed<'a>, Refusal>
-    ensures { AnswersCheck the_typed result (infixes.read_infix declared.now at between (the_variables scope.now) (the_formula left.now) (the_formula right.now)) }
+    ensures { AnswersIn (the_scope scope.now) (read_infix declared.now at between (the_formula left.now) (the_formula right.now)) result }
 {
     let x = read_term(alloc, declared, scope, left)?;
     let y = read_term(alloc, declared, scope, right)?;
     combined(alloc, at, between, x, y)
+}
+
+/// Reads a quantifier over a predicate. The value at which a predicate is to hold somewhere has no name.
+#[cycle(terms)]
+fn read_quantified<'a>(
+    alloc: Global,
+    declared: &'a Declared,
+    scope: &Scope<'a>,
+    at: u32,
+    all: bool,
+    predicate: &Surface,
+) -> Result<Typed<'static>, Refusal>
+    ensures { AnswersIn (the_scope scope.now) (read_quantifier declared.now at all (the_formula predicate.now)) result }
+{
+    if all {
+        let x = read_term(alloc, declared, scope, predicate)?;
+        return everywhere(alloc, at, x);
+    }
+    let inner = Scope::Hidden { outer: &*scope };
+    let x = read_term(alloc, &*declared, &inner, predicate)?;
+    somewhere(alloc, at, x)
 }
 
 /// Reads a binder of these variables over a body.
@@ -175,7 +208,7 @@ fn read_binder<'a>(
     vars: &[SurfaceVar],
     body: &Surface,
 ) -> Result<Typed<'a>, Refusal>
-    ensures { AnswersCheck the_typed result (defined.read_binder declared.now at binder (the_vars vars.now) (the_variables scope.now) (λ inner. defined.read_term declared.now inner (the_formula body.now))) }
+    ensures { AnswersIn (the_scope scope.now) (read_bound declared.now at binder (the_vars vars.now) (the_formula body.now)) result }
 {
     let Some((var, rest)) = vars.split_first() else {
         return read_term(alloc, declared, scope, body);
@@ -191,4 +224,15 @@ fn read_binder<'a>(
         bound.into_made(alloc)?
     };
     bind(alloc, at, binder, a, bound)
+}
+
+/// Reads a term that stands under no binder.
+pub(crate) fn read_closed<'a>(
+    alloc: Global,
+    declared: &'a Declared,
+    tree: &Surface,
+) -> Result<Typed<'a>, Refusal>
+    ensures { AnswersCheck the_typed result (defined.read_term declared.now [] (the_formula tree.now)) }
+{
+    read_term(alloc, declared, &Scope::Empty, tree)
 }

@@ -14,8 +14,8 @@ combined at (Join conn) x y = typed_connection at conn x y
 combined at (Equality positive) x y = typed_equation at positive x y
 combined at Application x y = typed_application at x y
 
-abbrev pub read_infix : Declarations → ℕ → Infix → List TypedName → FormulaTree → FormulaTree → TermReading
-read_infix d at between scope s t = do
+abbrev pub read_infix : Declarations → ℕ → Infix → FormulaTree → FormulaTree → List TypedName → TermReading
+read_infix d at between s t scope = do
   x ← read_term d scope s
   y ← read_term d scope t
   combined at between x y
