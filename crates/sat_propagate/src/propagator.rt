@@ -267,7 +267,7 @@ impl Propagator {
         }
     }
 
-    /// Makes a variable true or false, by its last value.
+    /// Makes a variable true or false, as it is wished or was last.
     pub fn decide(&mut self, var: Var) -> Result<(), AllocError>
         requires right { IsPropagator self.old.trail self.old.processed self.old.clauses.items self.old.lists }
         requires whole { self.old.processed ≡ length self.old.trail.steps }
@@ -278,7 +278,7 @@ impl Propagator {
         ensures made { length self.new.trail.phases ≡ length self.old.trail.phases }
         ensures longer { OnOk result (length self.new.trail.steps ≡ length self.old.trail.steps + 1) }
     {
-        let positive = self.trail.phase(var);
+        let positive = self.decider.sign(var);
         self.trail.decide(SatLit { var, positive })?;
         Ok(())
     }
@@ -291,6 +291,16 @@ impl Propagator {
         ensures lists { self.new.lists ≡ self.old.lists }
     {
         self.decider.advance(variables);
+    }
+
+    /// Where variables are decided first, they take these values.
+    pub fn wish(&mut self, values: &[bool])
+        ensures trail { self.new.trail ≡ self.old.trail }
+        ensures processed { self.new.processed ≡ self.old.processed }
+        ensures clauses { self.new.clauses.items ≡ self.old.clauses.items }
+        ensures lists { self.new.lists ≡ self.old.lists }
+    {
+        self.decider.wish_all(values);
     }
 
     /// Goes back to a number of decisions, where there are more.
@@ -512,6 +522,8 @@ impl Propagator {
 /// Proposes the variables that have their values from a place on.
 fn propose_from(decider: &mut Decider, trail: &Trail, start: usize) {
     for place in start..trail.len() {
-        decider.propose(trail.step(place).literal.var);
+        let literal = trail.step(place).literal;
+        decider.wish(literal.var, literal.positive);
+        decider.propose(literal.var);
     }
 }

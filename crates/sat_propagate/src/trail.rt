@@ -162,6 +162,14 @@ impl Trail {
         self.cells[var.0].place
     }
 
+    /// The place of the literal on a variable, where it has a value.
+    pub fn find(&self, var: Var) -> Option<usize> {
+        match self.cells.get(var.0) {
+            Some(cell) if cell.assigned => Some(cell.place),
+            _ => None,
+        }
+    }
+
     /// The value of a variable, or the last one that it had.
     pub fn phase(&self, var: Var) -> bool
         requires { var.0 < length self.now.phases }
