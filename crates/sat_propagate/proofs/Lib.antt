@@ -1,4 +1,5 @@
 pub mod ClauseTableLaws
+mod CodeLaws
 pub mod ListLaws
 pub mod PlaceLaws
 pub mod PropagatorLaws

@@ -22,11 +22,11 @@ impl Head {
     ghost use Rattle.sat_propagate.specs.Internal.Propagator.{IsPair};
 
     /// Watches a literal in place of another one.
-    fn replace(&mut self, from: SatLit, to: Packed)
+    fn replace(&mut self, from: Packed, to: Packed)
         ensures place { (self.new.start ≡ self.old.start) × (self.new.len ≡ self.old.len) }
         ensures pair { (literals : List SatLit) (other : SatLit) → IsPair (with_head literals self.old) from other → IsPair (with_head literals self.new) to other }
     {
-        if self.first.literal() == from {
+        if self.first.is(from) {
             self.first = to;
         } else {
             self.second = to;
@@ -80,14 +80,14 @@ impl ClauseTable {
     }
 
     /// The other watched literal of a clause that watches this one. None where it doesn't, or there is no such clause.
-    pub fn other(&self, n: usize, literal: SatLit) -> Option<Packed>
+    pub fn other(&self, n: usize, literal: Packed) -> Option<Packed>
         ensures some { IfSome result (λ l. (watched : Watched) × (slice_get self.now.items n ≡ Some watched) × IsPair watched literal l) }
         ensures none { IfNone result ((watched : Watched) → slice_get self.now.items n ≡ Some watched → (watched.first ≢ literal) × (watched.second ≢ literal)) }
     {
         let head = self.heads.get(n)?;
-        if head.first.literal() == literal {
+        if head.first.is(literal) {
             Some(head.second)
-        } else if head.second.literal() == literal {
+        } else if head.second.is(literal) {
             Some(head.first)
         } else {
             None
@@ -95,12 +95,12 @@ impl ClauseTable {
     }
 
     /// The other watched literal of a clause that watches this one.
-    pub fn other_than(&self, n: usize, literal: SatLit) -> Packed
+    pub fn other_than(&self, n: usize, literal: Packed) -> Packed
         requires { n < length self.now.items }
         ensures { (watched : Watched) → slice_get self.now.items n ≡ Some watched → Watches watched literal → IsPair watched literal result }
     {
         let head = &self.heads[n];
-        if head.first.literal() == literal {
+        if head.first.is(literal) {
             head.second
         } else {
             head.first
@@ -137,7 +137,7 @@ impl ClauseTable {
     }
 
     /// A clause watches a literal in place of another one.
-    pub fn replace(&mut self, n: usize, from: SatLit, to: Packed)
+    pub fn replace(&mut self, n: usize, from: Packed, to: Packed)
         requires { n < length self.old.items }
         ensures { (old : Watched) (other : SatLit) → slice_get self.old.items n ≡ Some old → IsPair old from other → Rewatched self.old.items self.new.items n from to other }
     {

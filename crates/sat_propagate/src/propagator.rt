@@ -1,5 +1,5 @@
 //! Unit propagation over clauses with two watched literals each.
-ghost use Rattle.std.specs.Prelude.{◌≡◌, ◌≢◌, ◌⊎◌, ◌<◌, ◌≤◌, [], ◌∷◌, ◌++◌, ◌+◌, ℕ, Some, None, Option, IsTrue, true, false, length, map, take, slice_get, slice_index_or, IfOk, IfSome, IfNone, OnOk, OnErr, MatchOption};
+ghost use Rattle.std.specs.Prelude.{◌≡◌, ◌≢◌, ◌⊎◌, ◌<◌, ◌≤◌, [], ◌∷◌, ◌++◌, ◌+◌, ◌^◌, ℕ, Some, None, Option, IsTrue, true, false, length, map, take, slice_get, slice_index_or, IfOk, IfSome, IfNone, OnOk, OnErr, MatchOption};
 ghost use Rattle.std.specs.List.{All, Contains};
 ghost use Rattle.sat_base.specs.declared.literal.SatLit.{SatLit};
 ghost use Rattle.sat_base.specs.Literal.{holds, negated, mentions_variable, IsOver};
@@ -121,19 +121,50 @@ impl Propagator {
         ensures visited { IfOk result (λ r. r ≡ None → AreDone self.new.trail self.new.clauses.items self.new.lists falsified (length (watchers self.new.lists falsified))) }
         ensures conflict { IfOk result (λ r. (n : ℕ) → r ≡ Some n → IsConflict self.new.trail self.new.clauses.items n) }
     {
+        let packed = Packed::of(falsified)?;
+        self.visit_list(packed)
+    }
+
+    /// Visits the entries of a literal which became false, by its number.
+    fn visit_list(&mut self, falsified: Packed) -> Result<Option<usize>, AllocError>
+        requires right { IsPropagator self.old.trail self.old.processed self.old.clauses.items self.old.lists }
+        requires falsified { IsTrue (holds (literals self.old.trail.steps) (negated falsified)) }
+        requires made { falsified.var.0 < length self.old.trail.phases }
+        ensures right { IsPropagator self.new.trail self.new.processed self.new.clauses.items self.new.lists }
+        ensures grew { Grew self.old.trail self.old.clauses.items self.new.trail self.new.clauses.items }
+        ensures processed { self.new.processed ≡ self.old.processed }
+        ensures visited { IfOk result (λ r. r ≡ None → AreDone self.new.trail self.new.clauses.items self.new.lists falsified (length (watchers self.new.lists falsified))) }
+        ensures conflict { IfOk result (λ r. (n : ℕ) → r ≡ Some n → IsConflict self.new.trail self.new.clauses.items n) }
+    {
         let mut i = 0;
-        while i < self.lists.of(falsified).len() {
-            match self.visit_entry(falsified, i)? {
-                Visited::Next => i += 1,
-                Visited::Again => {}
+        while let Some(at) = self.next_entry(falsified, i) {
+            match self.visit_entry(falsified, at)? {
+                Visited::Next => i = at + 1,
+                Visited::Again => i = at,
                 Visited::False(conflict) => return Ok(Some(conflict)),
             }
         }
         Ok(None)
     }
 
+    /// The first entry of a literal, from a number on, whose blocker is not true.
+    fn next_entry(&self, falsified: Packed, from: usize) -> Option<usize>
+        requires { falsified.var.0 < length self.now.lists }
+        ensures some { IfSome result (λ at. (from ≤ at) × (at < length (watchers self.now.lists falsified)) × (AreDone self.now.trail self.now.clauses.items self.now.lists falsified from → AreDone self.now.trail self.now.clauses.items self.now.lists falsified at)) }
+        ensures fits { IfSome result (λ at. at + 1 < 2 ^ 64) }
+        ensures none { IfNone result (AreDone self.now.trail self.now.clauses.items self.now.lists falsified from → AreDone self.now.trail self.now.clauses.items self.now.lists falsified (length (watchers self.now.lists falsified))) }
+    {
+        let entries = self.lists.of(falsified);
+        for at in from..entries.len() {
+            if !self.trail.affirms(entries[at].blocker) {
+                return Some(at);
+            }
+        }
+        None
+    }
+
     /// Visits one of the entries of a literal which became false.
-    fn visit_entry(&mut self, falsified: SatLit, i: usize) -> Result<Visited, AllocError>
+    fn visit_entry(&mut self, falsified: Packed, i: usize) -> Result<Visited, AllocError>
         requires right { IsPropagator self.old.trail self.old.processed self.old.clauses.items self.old.lists }
         requires falsified { IsTrue (holds (literals self.old.trail.steps) (negated falsified)) }
         requires made { falsified.var.0 < length self.old.trail.phases }
@@ -146,9 +177,6 @@ impl Propagator {
         ensures conflict { IfOk result (λ r. (n : ℕ) → r ≡ Visited.False n → IsConflict self.new.trail self.new.clauses.items n) }
     {
         let watch = self.lists.entry(falsified, i);
-        if self.trail.is_true(watch.blocker.literal()) {
-            return Ok(Visited::Next);
-        }
         let n = watch.clause as usize;
         match self.look_at(n, falsified) {
             Finding::Stale => {
@@ -174,46 +202,45 @@ impl Propagator {
     }
 
     /// Looks at a clause, one of whose watched literals became false.
-    fn look_at(&self, n: usize, falsified: SatLit) -> Finding
+    fn look_at(&self, n: usize, falsified: Packed) -> Finding
         requires { IsTrue (holds (literals self.now.trail.steps) (negated falsified)) }
         ensures { Finds (literals self.now.trail.steps) (slice_get self.now.clauses.items n) falsified result }
     {
-        let Some(packed) = self.clauses.other(n, falsified) else {
+        let Some(other) = self.clauses.other(n, falsified) else {
             return Finding::Stale;
         };
-        let other = packed.literal();
-        if self.trail.is_true(other) {
-            return Finding::Satisfied(packed);
+        if self.trail.affirms(other) {
+            return Finding::Satisfied(other);
         }
         match self.replacement(self.clauses.literals(n), falsified, other) {
             Some(literal) => Finding::Other(literal),
-            None if self.trail.is_false(other) => Finding::False,
-            None => Finding::Unit(other),
+            None if self.trail.denies(other) => Finding::False,
+            None => Finding::Unit(other.literal()),
         }
     }
 
     /// A literal that is not false, other than these two.
-    fn replacement(&self, among: &[Packed], a: SatLit, b: SatLit) -> Option<Packed>
+    fn replacement(&self, among: &[Packed], a: Packed, b: Packed) -> Option<Packed>
         ensures some { IfSome result (λ l. IsTrue (holds among.now l) × (l ≢ a) × (l ≢ b) × (holds (literals self.now.trail.steps) (negated l) ≡ false)) }
         ensures none { IfNone result ((l : SatLit) → IsTrue (holds among.now l) → l ≢ a → l ≢ b → IsTrue (holds (literals self.now.trail.steps) (negated l))) }
     {
         for packed in among {
-            if self.is_free(packed.literal(), a, b) {
+            if self.is_free(*packed, a, b) {
                 return Some(*packed);
             }
         }
         None
     }
 
-    fn is_free(&self, literal: SatLit, a: SatLit, b: SatLit) -> bool
+    fn is_free(&self, literal: Packed, a: Packed, b: Packed) -> bool
         ensures yes { IsTrue result → (literal ≢ a) × (literal ≢ b) × (holds (literals self.now.trail.steps) (negated literal) ≡ false) }
         ensures no { result ≡ false → literal ≢ a → literal ≢ b → IsTrue (holds (literals self.now.trail.steps) (negated literal)) }
     {
-        !self.trail.is_false(literal) && literal != a && literal != b
+        !self.trail.denies(literal) && !literal.is(a) && !literal.is(b)
     }
 
     /// Watches a literal in place of another one.
-    fn watch_other(&mut self, n: u32, from: SatLit, to: Packed) -> Result<(), AllocError>
+    fn watch_other(&mut self, n: u32, from: Packed, to: Packed) -> Result<(), AllocError>
         requires found { FindsOther (literals self.old.trail.steps) (slice_get self.old.clauses.items n) from to }
         requires made { to.var.0 < length self.old.lists }
         ensures moved { OnOk result (Moves self.old.clauses.items self.new.clauses.items self.old.lists self.new.lists n from to) }

@@ -11,14 +11,6 @@ use Rattle.sat_propagate.proofs.PropagatorLaws.{right_removed, done_removed, rig
 use Rattle.sat_propagate.proofs.EntryLaws.{var_made, other_in, length_removed, length_written, next_written, found_unit, next_assigned, right_moved}
 use Rattle.sat_propagate.proofs.propagator.Propagator.visit_entry.Goals as goal
 
-pub returns-then-is_true-clause-next : goal.returns-then-is_true-clause-next
-returns-then-is_true-clause-next c = λ e. (
-  refl,
-  λ done. done_more c.args.self.now.trail c.args.self.now.clauses.items c.args.self.now.lists c.args.falsified c.args.i c.entry-watch.result c.entry-watch.ensures
-      (done_by_blocker c.args.self.now.trail c.args.self.now.clauses.items c.args.falsified c.entry-watch.result
-      (ap (holds (literals c.args.self.now.trail.steps)) (sym c.literal.ensures) ∙ sym c.is_true.ensures ∙ c.if-is_true.true)) done,
-)
-
 pub watch_other-requires-clause-made : goal.watch_other-requires-clause-made
 watch_other-requires-clause-made c =
     let found = c.in-Other.ensures in
