@@ -47,6 +47,7 @@ pub struct Learner {
     inserted_results: usize,
     marks: Marks,
     spares: Spares,
+    used: Vec<usize>,
 }
 
 impl Learner {
@@ -68,6 +69,7 @@ impl Learner {
             inserted_results: 0,
             marks: Marks::new(alloc),
             spares: Spares::new(alloc),
+            used: Vec::new(alloc),
         }
     }
 
@@ -260,6 +262,7 @@ impl Learner {
             self.names.as_slice(),
             &mut self.marks,
             &mut self.spares,
+            &mut self.used,
             conflict,
         )
     }
@@ -277,7 +280,7 @@ impl Learner {
         ensures err { OnErr result (self.new.log ≡ self.old.log) }
     {
         self.log.push(&self.clauses, chain)?;
-        self.propagator.bump(self.marks.met());
+        self.propagator.bump(self.marks.met(), self.used.as_slice());
         Ok(())
     }
 

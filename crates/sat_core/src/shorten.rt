@@ -3,7 +3,7 @@ ghost use Rattle.std.specs.Prelude.{◌≡◌, ◌<◌, ◌≤◌, length, IfOk,
 ghost use Rattle.sat_propagate.specs.Internal.Propagator.{IsPropagator, IsConflict};
 ghost use Rattle.sat_core.specs.Internal.Learned.{Learns, IsShortening};
 
-use crate::analysis::{mark_others, name_of, point_chain};
+use crate::analysis::{mark_others, name_of, note_used, point_chain};
 use crate::marks::Marks;
 use crate::spares::Spares;
 use sat_log::{Chain, ChainStep, Premise};
@@ -11,13 +11,14 @@ use sat_propagate::Propagator;
 use std::alloc::{AllocError, Global};
 
 /// The chain of what is learned where a clause is false and there is a decision: the clause of the first unique
-/// implication point, without the literals that follow from its others.
+/// implication point, without the literals that follow from its others. The clauses that it took are listed.
 pub fn learned_chain(
     alloc: Global,
     propagator: &Propagator,
     names: &[Premise],
     marks: &mut Marks,
     spares: &mut Spares,
+    used: &mut Vec<usize>,
     conflict: usize,
 ) -> Result<Chain, AllocError>
     requires right { IsPropagator propagator.now.trail propagator.now.processed propagator.now.clauses.items propagator.now.lists }
@@ -30,12 +31,13 @@ pub fn learned_chain(
 {
     let trail = &propagator.trail;
     let start = trail.start(trail.levels() - 1);
-    let mut chain = point_chain(alloc, propagator, names, marks, conflict, start)?;
+    used.clear();
+    let mut chain = point_chain(alloc, propagator, names, marks, used, conflict, start)?;
     marks.note_met();
     spares.find(propagator, marks, start)?;
     let places = spares.places();
     for i in (0..places.len()).rev() {
-        shorten(propagator, names, marks, &mut chain, places[i], start)?;
+        shorten(propagator, names, marks, used, &mut chain, places[i], start)?;
     }
     Ok(chain)
 }
@@ -45,6 +47,7 @@ fn shorten(
     propagator: &Propagator,
     names: &[Premise],
     marks: &mut Marks,
+    used: &mut Vec<usize>,
     chain: &mut Chain,
     place: usize,
     start: usize,
@@ -65,6 +68,7 @@ fn shorten(
         return Ok(());
     };
     if marks.contains(step.literal.var) {
+        note_used(used, reason)?;
         let literals = propagator.literals(reason);
         marks.unmark(step.literal.var);
         let _late = mark_others(trail, marks, literals, Some(step.literal), 0)?;

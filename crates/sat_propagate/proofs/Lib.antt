@@ -8,3 +8,4 @@ pub mod TableLaws
 pub mod LevelLaws
 pub mod BackLaws
 pub mod InsertLaws
+pub mod DetachLaws

@@ -8,7 +8,7 @@ use sat_base::SatLit;
 use std::alloc::{AllocError, Global};
 use std::marker::Model;
 
-/// A clause's watched literals, or twice its only one, and where its literals stand.
+/// A clause's watched literals, or twice one of it where it watches none, and where its literals stand.
 #[derive(Clone, Copy, Debug)]
 pub struct Head {
     pub first: Packed,
@@ -52,7 +52,7 @@ impl Model for ClauseTable {
 }
 
 impl ClauseTable {
-    ghost use Rattle.sat_propagate.specs.Internal.Propagator.{IsPair, Watches, Rewatched};
+    ghost use Rattle.sat_propagate.specs.Internal.Propagator.{IsPair, Watches, Rewatched, Detaches};
 
     pub fn new(alloc: Global) -> Self
         ensures { result.items ≡ [] }
@@ -81,10 +81,14 @@ impl ClauseTable {
 
     /// The other watched literal of a clause that watches this one. None where it doesn't, or there is no such clause.
     pub fn other(&self, n: usize, literal: Packed) -> Option<Packed>
-        ensures some { IfSome result (λ l. (watched : Watched) × (slice_get self.now.items n ≡ Some watched) × IsPair watched literal l) }
-        ensures none { IfNone result ((watched : Watched) → slice_get self.now.items n ≡ Some watched → (watched.first ≢ literal) × (watched.second ≢ literal)) }
+        ensures some { IfSome result (λ l. (watched : Watched) × (slice_get self.now.items n ≡ Some watched) × (watched.first ≢ watched.second) × IsPair watched literal l) }
+        ensures none { IfNone result ((watched : Watched) → slice_get self.now.items n ≡ Some watched → watched.first ≢ watched.second → (watched.first ≢ literal) × (watched.second ≢ literal)) }
     {
         let head = self.heads.get(n)?;
+        let is_detached = head.first.is(head.second);
+        if is_detached {
+            return None;
+        }
         if head.first.is(literal) {
             Some(head.second)
         } else if head.second.is(literal) {
@@ -143,6 +147,15 @@ impl ClauseTable {
     {
         let head = &mut self.heads[n];
         head.replace(from, to);
+    }
+
+    /// A clause watches none of its literals any more.
+    pub fn detach(&mut self, n: usize)
+        requires { n < length self.old.items }
+        ensures { Detaches self.old.items self.new.items n }
+    {
+        let head = &mut self.heads[n];
+        head.second = head.first;
     }
 }
 

@@ -4,7 +4,7 @@ ghost use Rattle.std.specs.List.{All, Contains};
 ghost use Rattle.sat_base.specs.declared.literal.SatLit.{SatLit};
 ghost use Rattle.sat_base.specs.Literal.{holds, negated, mentions_variable, IsOver};
 ghost use Rattle.sat_base.specs.Truth.{AllTrue, assigned};
-ghost use Rattle.sat_laws.specs.Internal.Complete.{satisfies};
+ghost use Rattle.sat_laws.specs.Internal.Complete.{satisfies, IsClausePart};
 ghost use Rattle.sat_log.specs.Propagation.{IsFalseIn};
 ghost use Rattle.sat_propagate.specs.Internal.Insertion.{IsSooner, IsRank, IsBest, IsUnseen};
 ghost use Rattle.sat_propagate.specs.Internal.Trail.{literals, IsTrail};
@@ -53,6 +53,7 @@ pub struct Propagator {
     pub clauses: ClauseTable,
     pub lists: WatchLists,
     pub decider: Decider,
+    used: Vec<usize>,
 }
 
 impl Propagator {
@@ -67,6 +68,7 @@ impl Propagator {
             clauses: ClauseTable::new(alloc),
             lists: WatchLists::new(alloc),
             decider: Decider::new(alloc),
+            used: Vec::new(alloc),
         }
     }
 
@@ -264,6 +266,7 @@ impl Propagator {
         ensures full { IfOk result (λ r. r ≡ Ended.Full → AllTrue (assigned self.new.trail.phases) (texts self.new.clauses.items)) }
         ensures conflict { IfOk result (λ r. (n : ℕ) → r ≡ Ended.False n → IsConflict self.new.trail self.new.clauses.items n) }
     {
+        self.detach_used();
         loop {
             if let Some(conflict) = self.propagate()? {
                 return Ok(Ended::False(conflict));
@@ -310,14 +313,17 @@ impl Propagator {
         Ok(())
     }
 
-    /// Variables that took part in a conflict are proposed sooner.
-    pub fn bump(&mut self, variables: &[Var])
+    /// Variables that took part in a conflict are proposed sooner. The clauses from which something was learned are
+    /// watched no more if the next clause that is inserted is a part of them; where there is no memory they stay watched.
+    pub fn bump(&mut self, variables: &[Var], used: &[usize])
         ensures trail { self.new.trail ≡ self.old.trail }
         ensures processed { self.new.processed ≡ self.old.processed }
         ensures clauses { self.new.clauses.items ≡ self.old.clauses.items }
         ensures lists { self.new.lists ≡ self.old.lists }
     {
         self.decider.advance(variables);
+        self.used.clear();
+        let _kept = self.used.extend_from_slice(used);
     }
 
     /// Where variables are decided first, they take these values.
@@ -328,6 +334,38 @@ impl Propagator {
         ensures lists { self.new.lists ≡ self.old.lists }
     {
         self.decider.wish_all(values);
+    }
+
+    /// Of the clauses from which something was learned those are watched no more that the last clause is a part of.
+    fn detach_used(&mut self)
+        requires right { IsPropagator self.old.trail self.old.processed self.old.clauses.items self.old.lists }
+        ensures right { IsPropagator self.new.trail self.new.processed self.new.clauses.items self.new.lists }
+        ensures trail { self.new.trail ≡ self.old.trail }
+        ensures texts { texts self.new.clauses.items ≡ texts self.old.clauses.items }
+    {
+        for _ in 0..self.used.len() {
+            if let Some(n) = self.used.pop() {
+                self.detach_covered(n);
+            }
+        }
+    }
+
+    /// A clause is watched no more where the last one is a part of it, and another one.
+    fn detach_covered(&mut self, n: usize)
+        requires right { IsPropagator self.old.trail self.old.processed self.old.clauses.items self.old.lists }
+        ensures right { IsPropagator self.new.trail self.new.processed self.new.clauses.items self.new.lists }
+        ensures trail { self.new.trail ≡ self.old.trail }
+        ensures texts { texts self.new.clauses.items ≡ texts self.old.clauses.items }
+    {
+        let count = self.clauses.len();
+        if n >= count {
+            return;
+        }
+        let part = self.clauses.literals(count - 1);
+        let clause = self.clauses.literals(n);
+        if is_proper_part(part, clause) {
+            self.clauses.detach(n);
+        }
     }
 
     /// Goes back to a number of decisions, where there are more.
@@ -553,4 +591,36 @@ fn propose_from(decider: &mut Decider, trail: &Trail, start: usize) {
         decider.wish(literal.var, literal.positive);
         decider.propose(literal.var);
     }
+}
+
+/// Whether the literals of a clause are among those of another one that has more.
+fn is_proper_part(part: &[Packed], clause: &[Packed]) -> bool
+    ensures among { IsTrue result → IsClausePart part.now clause.now }
+    ensures more { IsTrue result → (l : SatLit) × IsTrue (holds clause.now l) × (holds part.now l ≡ false) }
+{
+    are_among(part, clause) && !are_among(clause, part)
+}
+
+/// Whether the literals of a clause are among those of another one.
+fn are_among(some: &[Packed], clause: &[Packed]) -> bool
+    ensures among { IsTrue result → IsClausePart some.now clause.now }
+    ensures more { result ≡ false → (l : SatLit) × IsTrue (holds some.now l) × (holds clause.now l ≡ false) }
+{
+    for literal in some {
+        if !is_among(*literal, clause) {
+            return false;
+        }
+    }
+    true
+}
+
+fn is_among(literal: Packed, clause: &[Packed]) -> bool
+    ensures { result ≡ holds clause.now literal }
+{
+    for other in clause {
+        if literal.is(*other) {
+            return true;
+        }
+    }
+    false
 }

@@ -33,9 +33,9 @@ pub returns-in-Stale-clause-right : goal.returns-in-Stale-clause-right
 returns-in-Stale-clause-right c =
     right_removed c.args.self.now.trail c.args.self.now.processed c.args.self.now.clauses.items c.args.self.now.lists c.remove.new.self c.args.falsified c.args.i c.remove.result
     c.requires.there c.remove.ensures.entry
-    (λ watched at watches.
+    (λ watched at distinct watches.
     let same : c.remove.result ≡ c.entry-watch.result = same_Some _ _ (sym c.remove.ensures.entry ∙ c.entry-watch.ensures) in
-    let apart = c.in-Stale.ensures watched (ap (λ (w : Watch). slice_get c.args.self.now.clauses.items w.clause) (sym same) ∙ at) in
+    let apart = c.in-Stale.ensures watched (ap (λ (w : Watch). slice_get c.args.self.now.clauses.items w.clause) (sym same) ∙ at) distinct in
     elim watches [ inl first ↦ apart.0 first | inr second ↦ apart.1 second ])
     c.remove.ensures.entries c.remove.ensures.made c.requires.right
 
