@@ -289,7 +289,7 @@ right_enlisted trail processed clauses lists more l entry enlists made right = r
 }
 
 -- a clause of the longer list is one of the shorter one, or the last
-clause_cases : (clauses : List Watched) (last : Watched) (n : ℕ) (watched : Watched) → slice_get (clauses ++ last ∷ []) n ≡ Some watched
+pub clause_cases : (clauses : List Watched) (last : Watched) (n : ℕ) (watched : Watched) → slice_get (clauses ++ last ∷ []) n ≡ Some watched
     → (slice_get clauses n ≡ Some watched) ⊎ ((n ≡ length clauses) × (last ≡ watched))
 clause_cases clauses last n watched at =
     elim (cases_order n (length clauses)) [
@@ -312,7 +312,7 @@ cover_more starts trail processed clauses new clause cover = record {
 }
 
 -- a clause that is kept covers itself
-cover_new : (starts : List ℕ) (trail : List SatLit) (processed : ℕ) (clauses : List Watched) (new : Watched) → IsKept starts trail processed new.clause new.first new.second
+pub cover_new : (starts : List ℕ) (trail : List SatLit) (processed : ℕ) (clauses : List Watched) (new : Watched) → IsKept starts trail processed new.clause new.first new.second
     → IsCovered starts trail processed (clauses ++ new ∷ []) new.clause
 cover_new starts trail processed clauses new kept = record { at = length clauses; part = new; there = slice_get-seam clauses new; among = λ l h. h; kept = kept }
 

@@ -9,3 +9,4 @@ pub mod LevelLaws
 pub mod BackLaws
 pub mod InsertLaws
 pub mod DetachLaws
+pub mod ForcedLaws

@@ -184,7 +184,7 @@ step_cases steps last i step at =
 pub literals-push : (steps : List Step) (last : Step) → literals (steps ++ last ∷ []) ≡ literals steps ++ last.literal ∷ []
 literals-push steps last = map-append (λ (step : Step). step.literal) steps (last ∷ [])
 
-take_literals : (steps : List Step) (last : Step) (i : ℕ) → i ≤ length steps → take i (literals (steps ++ last ∷ [])) ≡ take i (literals steps)
+pub take_literals : (steps : List Step) (last : Step) (i : ℕ) → i ≤ length steps → take i (literals (steps ++ last ∷ [])) ≡ take i (literals steps)
 take_literals steps last i h =
     let short : i ≤ length (literals steps) = omega (arith, length-map steps (λ (step : Step). step.literal)) in
     ap (take i) (literals-push steps last) ∙ take-append-le i (literals steps) (last.literal ∷ []) short

@@ -5,7 +5,7 @@ ghost use Rattle.sat_base.specs.declared.literal.SatLit.{SatLit};
 ghost use Rattle.sat_base.specs.Literal.{holds, negated, mentions_variable, IsOver};
 ghost use Rattle.sat_base.specs.Truth.{AllTrue, assigned};
 ghost use Rattle.sat_laws.specs.Internal.Complete.{satisfies, IsClausePart};
-ghost use Rattle.sat_log.specs.Propagation.{IsFalseIn};
+ghost use Rattle.sat_log.specs.Propagation.{IsFalseIn, IsUnitClause};
 ghost use Rattle.sat_propagate.specs.Internal.Insertion.{IsSooner, IsRank, IsBest, IsUnseen};
 ghost use Rattle.sat_propagate.specs.Internal.Trail.{literals, IsTrail};
 ghost use Rattle.sat_propagate.specs.Internal.WatchLists.{watchers};
@@ -152,7 +152,9 @@ impl Propagator {
     /// The first entry of a literal, from a number on, whose blocker is not true.
     fn next_entry(&self, falsified: Packed, from: usize) -> Option<usize>
         requires { falsified.var.0 < length self.now.lists }
-        ensures some { IfSome result (λ at. (from ≤ at) × (at < length (watchers self.now.lists falsified)) × (AreDone self.now.trail self.now.clauses.items self.now.lists falsified from → AreDone self.now.trail self.now.clauses.items self.now.lists falsified at)) }
+        ensures later { IfSome result (λ at. from ≤ at) }
+        ensures inside { IfSome result (λ at. at < length (watchers self.now.lists falsified)) }
+        ensures done { IfSome result (λ at. AreDone self.now.trail self.now.clauses.items self.now.lists falsified from → AreDone self.now.trail self.now.clauses.items self.now.lists falsified at) }
         ensures fits { IfSome result (λ at. at + 1 < 2 ^ 64) }
         ensures none { IfNone result (AreDone self.now.trail self.now.clauses.items self.now.lists falsified from → AreDone self.now.trail self.now.clauses.items self.now.lists falsified (length (watchers self.now.lists falsified))) }
     {
@@ -498,7 +500,97 @@ impl Propagator {
         Ok(())
     }
 
+    /// Inserts a clause with two literals to watch, wherever the second of which is false all others but the first are.
     fn insert_watched(
+        &mut self,
+        clause: &[SatLit],
+        first: SatLit,
+        second: SatLit,
+    ) -> Result<(), AllocError>
+        requires right { IsPropagator self.old.trail self.old.processed self.old.clauses.items self.old.lists }
+        requires over { IsOver (length self.old.trail.phases) clause.now }
+        requires first { IsTrue (holds clause.now first) }
+        requires second { IsTrue (holds clause.now second) }
+        requires apart { first ≢ second }
+        requires sooner { IsSooner (literals self.old.trail.steps) second first }
+        requires rest { (m : SatLit) → IsTrue (holds clause.now m) → m ≢ first → IsSooner (literals self.old.trail.steps) m second }
+        ensures right { IsPropagator self.new.trail self.new.processed self.new.clauses.items self.new.lists }
+        ensures made { length self.new.trail.phases ≡ length self.old.trail.phases }
+        ensures inserted { OnOk result (texts self.new.clauses.items ≡ texts self.old.clauses.items ++ clause.now ∷ []) }
+        ensures err { OnErr result (self.new.clauses.items ≡ self.old.clauses.items) }
+    {
+        if self.goes_back_to_unit(first, second) {
+            return self.push_forced(clause, first, second);
+        }
+        self.push_watched(clause, first, second)
+    }
+
+    /// Goes back to the level of a false literal's place. Whether it was false, and the first literal has no value then.
+    fn goes_back_to_unit(&mut self, first: SatLit, second: SatLit) -> bool
+        requires right { IsPropagator self.old.trail self.old.processed self.old.clauses.items self.old.lists }
+        ensures right { IsPropagator self.new.trail self.new.processed self.new.clauses.items self.new.lists }
+        ensures made { length self.new.trail.phases ≡ length self.old.trail.phases }
+        ensures clauses { self.new.clauses.items ≡ self.old.clauses.items }
+        ensures beginning { (n : ℕ) × (literals self.new.trail.steps ≡ take n (literals self.old.trail.steps)) }
+        ensures open { IsTrue result → mentions_variable (literals self.new.trail.steps) first.var ≡ false }
+        ensures denied { IsTrue result → IsTrue (holds (literals self.new.trail.steps) (negated second)) }
+        ensures unseen { IsTrue result → (s : ℕ) → Contains self.new.trail.starts s → holds (take s (literals self.new.trail.steps)) (negated second) ≡ false }
+    {
+        if !self.trail.is_false(second) {
+            return false;
+        }
+        let place = self.trail.place(second.var);
+        let level = self.level_of(place);
+        self.back_to(level);
+        self.trail.is_open(first.var)
+    }
+
+    /// Appends a clause all of whose literals but the first are false, and makes that one true.
+    fn push_forced(
+        &mut self,
+        clause: &[SatLit],
+        first: SatLit,
+        second: SatLit,
+    ) -> Result<(), AllocError>
+        requires right { IsPropagator self.old.trail self.old.processed self.old.clauses.items self.old.lists }
+        requires over { IsOver (length self.old.trail.phases) clause.now }
+        requires second { IsTrue (holds clause.now second) }
+        requires apart { first ≢ second }
+        requires open { mentions_variable (literals self.old.trail.steps) first.var ≡ false }
+        requires unit { IsUnitClause (literals self.old.trail.steps) clause.now first }
+        requires unseen { (s : ℕ) → Contains self.old.trail.starts s → holds (take s (literals self.old.trail.steps)) (negated second) ≡ false }
+        ensures right { IsPropagator self.new.trail self.new.processed self.new.clauses.items self.new.lists }
+        ensures made { length self.new.trail.phases ≡ length self.old.trail.phases }
+        ensures inserted { OnOk result (texts self.new.clauses.items ≡ texts self.old.clauses.items ++ clause.now ∷ []) }
+        ensures err { OnErr result (self.new.clauses.items ≡ self.old.clauses.items) }
+    {
+        let watched = Packed::of(first)?;
+        let other = Packed::of(second)?;
+        let n = narrow(self.clauses.len())?;
+        self.lists.push(
+            first,
+            Watch {
+                clause: n,
+                blocker: other,
+            },
+        )?;
+        self.lists.push(
+            second,
+            Watch {
+                clause: n,
+                blocker: watched,
+            },
+        )?;
+        self.clauses.push(clause, watched, other)?;
+        if let Err(refused) = self.trail.assign(first, Some(n as usize)) {
+            self.clauses.pop();
+            return Err(refused);
+        }
+        Ok(())
+    }
+
+    /// Appends a clause with two literals to watch, going back as far as it needs.
+    fn push_watched(
         &mut self,
         clause: &[SatLit],
         first: SatLit,

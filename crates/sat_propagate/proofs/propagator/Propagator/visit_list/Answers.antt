@@ -11,7 +11,7 @@ loop-at-preserved-in-Next c =
     let after = c.visit_entry.new.self in
     let grew = c.visit_entry.ensures.grew in
     let made : c.args.falsified.var.0 < length before.trail.phases = c.loop-at.invariant.made in
-    let done : AreDone before.trail before.clauses.items before.lists c.args.falsified c.in-Some.at = c.in-Some.ensures.some.2 c.loop-at.invariant.done in
+    let done : AreDone before.trail before.clauses.items before.lists c.args.falsified c.in-Some.at = c.in-Some.ensures.done c.loop-at.invariant.done in
     record {
       right = c.visit_entry.ensures.right;
       grew = Grew-trans c.args.self.now.trail before.trail after.trail c.args.self.now.clauses.items before.clauses.items after.clauses.items c.loop-at.invariant.grew grew;
@@ -27,7 +27,7 @@ loop-at-preserved c =
     let after = c.visit_entry.new.self in
     let grew = c.visit_entry.ensures.grew in
     let made : c.args.falsified.var.0 < length before.trail.phases = c.loop-at.invariant.made in
-    let done : AreDone before.trail before.clauses.items before.lists c.args.falsified c.in-Some.at = c.in-Some.ensures.some.2 c.loop-at.invariant.done in
+    let done : AreDone before.trail before.clauses.items before.lists c.args.falsified c.in-Some.at = c.in-Some.ensures.done c.loop-at.invariant.done in
     record {
       right = c.visit_entry.ensures.right;
       grew = Grew-trans c.args.self.now.trail before.trail after.trail c.args.self.now.clauses.items before.clauses.items after.clauses.items c.loop-at.invariant.grew grew;
