@@ -101,12 +101,13 @@ fn resolve_marks(
 }
 
 /// The chain of the first unique implication point, where a clause is false and there is a decision: `start` is the
-/// place of the last one. The variables of the chain's clause are marked then.
+/// place of the last one. The variables of the chain's clause are marked then. The clauses that it took are listed.
 pub fn point_chain(
     alloc: Global,
     propagator: &Propagator,
     names: &[Premise],
     marks: &mut Marks,
+    used: &mut Vec<usize>,
     conflict: usize,
     start: usize,
 ) -> Result<Chain, AllocError>
@@ -122,6 +123,7 @@ pub fn point_chain(
     let trail = &propagator.trail;
     marks.clear()?;
     let mut late = mark_others(trail, marks, propagator.literals(conflict), None, start)?;
+    note_used(used, conflict)?;
     let mut steps = ChainSteps::new(alloc);
     for place in (start..trail.len()).rev() {
         let step = trail.step(place);
@@ -130,6 +132,7 @@ pub fn point_chain(
                 let first = name_of(names, conflict);
                 return Ok(Chain { first, steps });
             };
+            note_used(used, reason)?;
             let literals = propagator.literals(reason);
             late = resolve_marks(trail, marks, literals, step.literal, start, late)?;
             steps.push(ChainStep {
@@ -147,6 +150,12 @@ fn reason_to_resolve(step: Step, late: usize) -> Option<usize>
     ensures none { IfNone result ((step.reason ≡ None) ⊎ (late ≡ 1)) }
 {
     if late == 1 { None } else { step.reason }
+}
+
+/// Lists a clause from which something is learned.
+pub fn note_used(used: &mut Vec<usize>, n: usize) -> Result<(), AllocError> {
+    used.push(n)?;
+    Ok(())
 }
 
 /// The name of a clause.

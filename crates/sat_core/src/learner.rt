@@ -15,6 +15,7 @@ use crate::analysis::refuted_chain;
 use crate::marks::Marks;
 use crate::restarts::Restarts;
 use crate::shorten::learned_chain;
+use crate::spares::Spares;
 use sat_base::{Clause, ClauseStore, Var};
 use sat_log::{Chain, Log, Premise};
 use sat_propagate::{Ended, Propagator};
@@ -45,6 +46,8 @@ pub struct Learner {
     inserted_clauses: usize,
     inserted_results: usize,
     marks: Marks,
+    spares: Spares,
+    used: Vec<usize>,
 }
 
 impl Learner {
@@ -65,6 +68,8 @@ impl Learner {
             inserted_clauses: 0,
             inserted_results: 0,
             marks: Marks::new(alloc),
+            spares: Spares::new(alloc),
+            used: Vec::new(alloc),
         }
     }
 
@@ -114,8 +119,8 @@ impl Learner {
     }
 
     /// Looks for values that make the clauses true, and learns at most so many clauses, those of earlier calls among
-    /// them.
-    pub fn solve(&mut self, budget: u64) -> Result<Answer, AllocError>
+    /// them. Variables are decided as the given values have them first.
+    pub fn solve(&mut self, budget: u64, values: &[bool]) -> Result<Answer, AllocError>
         requires learner { IsLearner self.old }
         requires open { self.old.is_refuted ≡ false }
         requires budget { length self.old.log ≤ budget }
@@ -124,6 +129,7 @@ impl Learner {
         ensures within { length (learned_from self.new.is_refuted (results self.new.log)) ≤ budget }
         ensures answer { IfOk result (λ answer. AnswersSolve budget (seen self.new) answer) }
     {
+        self.propagator.wish(values);
         let mut restarts = Restarts::new();
         loop {
             if let Some(answer) = self.step(budget)? {
@@ -255,6 +261,8 @@ impl Learner {
             &self.propagator,
             self.names.as_slice(),
             &mut self.marks,
+            &mut self.spares,
+            &mut self.used,
             conflict,
         )
     }
@@ -272,7 +280,7 @@ impl Learner {
         ensures err { OnErr result (self.new.log ≡ self.old.log) }
     {
         self.log.push(&self.clauses, chain)?;
-        self.propagator.bump(self.marks.touched());
+        self.propagator.bump(self.marks.met(), self.used.as_slice());
         Ok(())
     }
 

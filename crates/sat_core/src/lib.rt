@@ -8,6 +8,7 @@ mod marks;
 mod restarts;
 mod shorten;
 mod solver;
+mod spares;
 mod uses;
 
 pub use learner::Answer;

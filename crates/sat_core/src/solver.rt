@@ -103,7 +103,8 @@ impl Solver {
         if self.keeper.satisfy(&self.learner.clauses)? {
             return Ok(Answer::Sat);
         }
-        let answer = self.learner.solve(budget)?;
+        let values = self.keeper.values.as_slice();
+        let answer = self.learner.solve(budget, values)?;
         if answer != Answer::Sat {
             return Ok(answer);
         }

@@ -35,11 +35,18 @@ right_back trail processed clauses lists levels s whole inside s_is right = reco
       let less = whole.ascending k levels k_in inside in
       omega arith;
   processed_within = omega (arith, length-take-le s trail.steps short);
-  kept = λ n watched at.
-      subst (λ (some : List SatLit). IsKept (take levels trail.starts) some s watched.clause watched.first watched.second) (take_literals_is trail.steps s)
-      (kept_back trail.starts (take levels trail.starts) (literals trail.steps) processed s watched.clause watched.first watched.second at_start fewer before (right.kept n watched at));
+  covered = λ n watched at.
+      let cover = right.covered n watched at in
+      let part = cover.part in
+      record {
+        at = cover.at;
+        part = part;
+        there = cover.there;
+        among = cover.among;
+        kept = subst (λ (some : List SatLit). IsKept (take levels trail.starts) some s part.clause part.first part.second) (take_literals_is trail.steps s)
+            (kept_back trail.starts (take levels trail.starts) (literals trail.steps) processed s part.clause part.first part.second at_start fewer before cover.kept);
+      };
   members = right.members;
-  alone = right.alone;
   listed = right.listed;
   over = right.over;
   lists_made = right.lists_made;

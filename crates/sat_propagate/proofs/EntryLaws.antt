@@ -18,7 +18,7 @@ use Rattle.sat_propagate.specs.declared.trail.Step.{Step}
 use Rattle.sat_propagate.specs.declared.watch_lists.Watch.{Watch}
 use Rattle.sat_propagate.specs.Internal.ClauseTable.{Watched}
 use Rattle.sat_propagate.proofs.ListLaws.{get-set_same, length-swap_remove}
-use Rattle.sat_propagate.proofs.PropagatorLaws.{Removes, Replaces, removed_here, if_true, if_false, right_removed, done_removed, done_written, done_more, done_by_blocker, done_longer, right_rewatched, done_rewatched, distinct_from, pair_members, watches_pair, IsFresh, distinct_pair}
+use Rattle.sat_propagate.proofs.PropagatorLaws.{Removes, Replaces, removed_here, if_true, if_false, right_removed, done_removed, done_written, done_more, done_by_blocker, done_longer, right_rewatched, done_rewatched, distinct_from, pair_members, watches_pair, IsFresh}
 
 -- a variable of a clause is made
 pub var_made : (trail : TrailState) (processed : ℕ) (clauses : List Watched) (lists : List WatchPair) (n : ℕ) (watched : Watched) (l : SatLit) → IsPropagator trail processed clauses lists
@@ -98,20 +98,17 @@ found_fresh trail clauses after n from to other found changed = record {
     pair_unique watched l a b (inr p) (inl q) = sym p.1 ∙ q.0 ∙ sym p.0 ∙ q.1
     pair_unique watched l a b (inr p) (inr q) = sym p.1 ∙ q.1
 
-pub apart_of : (trail : TrailState) (processed : ℕ) (before after : List Watched) (lists : List WatchPair) (n : ℕ) (from to other : SatLit) (changed : Rewatched before after n from to other)
-    → IsFresh trail changed.old.clause from to other → IsPropagator trail processed before lists → from ≢ other
-apart_of trail processed before after lists n from to other changed fresh right =
-    distinct_from changed.old from other changed.pair_before
-    (distinct_pair changed.old from to other changed.pair_before fresh.new (λ m e h. right.alone n changed.old m changed.was e h) fresh.member)
+pub apart_of : (before after : List Watched) (n : ℕ) (from to other : SatLit) (changed : Rewatched before after n from to other) → changed.old.first ≢ changed.old.second → from ≢ other
+apart_of before after n from to other changed distinct = distinct_from changed.old from other changed.pair_before distinct
 
 -- from the watched literals that a clause has after the change, the one that became false is gone
-pub idle_after : (trail : TrailState) (processed : ℕ) (before after : List Watched) (lists : List WatchPair) (n : ℕ) (from to other : SatLit) (changed : Rewatched before after n from to other)
-    → IsFresh trail changed.old.clause from to other → IsPropagator trail processed before lists → (watched : Watched) → slice_get after n ≡ Some watched → Watches watched from → ⊥
-idle_after trail processed before after lists n from to other changed fresh right watched at watches =
+pub idle_after : (trail : TrailState) (before after : List Watched) (n : ℕ) (from to other : SatLit) (changed : Rewatched before after n from to other)
+    → IsFresh trail changed.old.clause from to other → changed.old.first ≢ changed.old.second → (watched : Watched) → slice_get after n ≡ Some watched → Watches watched from → ⊥
+idle_after trail before after n from to other changed fresh distinct watched at watches =
     let same : changed.new ≡ watched = same_Some _ _ (sym changed.is ∙ at) in
     elim (watches_pair changed.new to other from changed.pair_after (subst (λ (w : Watched). Watches w from) (sym same) watches)) [
       | inl is_to ↦ fresh.new (sym is_to)
-      | inr is_other ↦ apart_of trail processed before after lists n from to other changed fresh right is_other
+      | inr is_other ↦ apart_of before after n from to other changed distinct is_other
     ]
 
 -- a clause watches another literal, and its entry in the list of the old one is taken out
@@ -121,17 +118,20 @@ pub right_moved : (trail : TrailState) (processed : ℕ) (before after : List Wa
     → IsPropagator trail processed after fewer × (AreDone trail before lists from i → AreDone trail after fewer from i) × (length (watchers fewer from) + 1 ≡ length (watchers lists from))
 right_moved trail processed before after lists more fewer n from to i entry gone right found moves there named there_after removes made = (
   right_removed trail processed after more fewer from i gone inside there_after
-      (λ watched at watches. idle_after trail processed before after lists n from to moves.other moves.changed fresh right watched (ap (slice_get after) (sym gone_is) ∙ at) watches)
+      (λ watched at apart watches. idle_after trail before after n from to moves.other moves.changed fresh distinct watched (ap (slice_get after) (sym gone_is) ∙ at) watches)
       removes made
-      (right_rewatched trail processed before after lists more n from to moves.other moves.changed moves.enlists moves.made fresh right),
+      (right_rewatched trail processed before after lists more n from to moves.other moves.changed moves.enlists moves.made fresh distinct right),
   λ done. done_removed trail after more fewer from i gone inside removes
       (done_rewatched trail before after lists more n from to moves.other moves.changed moves.enlists found.new
-      (apart_of trail processed before after lists n from to moves.other moves.changed fresh right) i done),
+      (apart_of before after n from to moves.other moves.changed distinct) i done),
   length_removed more fewer from i gone inside removes ∙ ap (λ (entries : List Watch). length entries) same_list,
 )
   where
     fresh : IsFresh trail moves.changed.old.clause from to moves.other
     fresh = found_fresh trail before after n from to moves.other found moves.changed
+
+    distinct : moves.changed.old.first ≢ moves.changed.old.second
+    distinct = subst (λ (w : Watched). w.first ≢ w.second) (same_Some _ _ (sym found.there ∙ moves.changed.was)) found.distinct
 
     same_list : watchers more from ≡ watchers lists from
     same_list = moves.enlists from ∙ if_false (same_literal to from) _ _ (false_from_ne_true (same_literal to from) (λ t. found.new (same_literal-true to from t)))
@@ -141,3 +141,10 @@ right_moved trail processed before after lists more fewer n from to i entry gone
 
     gone_is : gone.clause ≡ n
     gone_is = ap (λ (w : Watch). w.clause) (same_Some _ _ (sym there_after ∙ ap (λ (entries : List Watch). slice_get entries i) same_list ∙ there)) ∙ named
+
+-- what is true stays so where the trail grows
+pub held_longer : (steps more after : List Step) (l : SatLit) → after ≡ steps ++ more → holds (literals steps) l ≡ true → holds (literals after) l ≡ true
+held_longer steps more after l is h =
+    ap (λ (list : List Step). holds (literals list) l) is
+    ∙ ap (λ (some : List SatLit). holds some l) (map-append (λ (s : Step). s.literal) steps more)
+    ∙ holds-append (literals steps) (literals more) l ∙ or_left _ _ h

@@ -18,7 +18,7 @@ use Rattle.sat_laws.proofs.WatchLaws.{held-take, kept_push}
 use Rattle.sat_laws.proofs.AnalysisLaws.{place_below, held_below}
 use Rattle.sat_propagate.specs.Internal.Trail.{TrailState, literals, IsTrail}
 use Rattle.sat_propagate.specs.Internal.WatchLists.{WatchPair, NamesWatches, watchers, no_watches}
-use Rattle.sat_propagate.specs.Internal.Propagator.{IsPropagator, Watches, Enlists, texts}
+use Rattle.sat_propagate.specs.Internal.Propagator.{IsPropagator, IsCovered, Watches, Enlists, texts}
 use Rattle.sat_propagate.specs.Internal.Insertion.{IsSooner, IsRank, IsBest, IsUnseen}
 use Rattle.sat_propagate.specs.declared.trail.Step.{Step}
 use Rattle.sat_propagate.specs.declared.watch_lists.Watch.{Watch}
@@ -247,9 +247,10 @@ right_lowered trail processed fewer clauses lists less started right = record {
   reasoned = right.reasoned;
   started = λ k d h. started (get_or trail.starts k d) (k, h, get_or-any trail.starts k _ d h);
   processed_within = omega (arith, right.processed_within);
-  kept = λ n watched at. kept_lowered watched.clause watched.first watched.second (right.kept n watched at);
+  covered = λ n watched at.
+      let cover = right.covered n watched at in
+      record { at = cover.at; part = cover.part; there = cover.there; among = cover.among; kept = kept_lowered cover.part.clause cover.part.first cover.part.second cover.kept };
   members = right.members;
-  alone = right.alone;
   listed = right.listed;
   over = right.over;
   lists_made = right.lists_made;
@@ -280,16 +281,15 @@ right_enlisted trail processed clauses lists more l entry enlists made right = r
   reasoned = right.reasoned;
   started = right.started;
   processed_within = right.processed_within;
-  kept = right.kept;
+  covered = right.covered;
   members = right.members;
-  alone = right.alone;
   listed = λ n watched m at apart watches. names_longer lists more l m entry n watched.clause enlists (right.listed n watched m at apart watches);
   over = right.over;
   lists_made = omega (arith, made, right.lists_made);
 }
 
 -- a clause of the longer list is one of the shorter one, or the last
-clause_cases : (clauses : List Watched) (last : Watched) (n : ℕ) (watched : Watched) → slice_get (clauses ++ last ∷ []) n ≡ Some watched
+pub clause_cases : (clauses : List Watched) (last : Watched) (n : ℕ) (watched : Watched) → slice_get (clauses ++ last ∷ []) n ≡ Some watched
     → (slice_get clauses n ≡ Some watched) ⊎ ((n ≡ length clauses) × (last ≡ watched))
 clause_cases clauses last n watched at =
     elim (cases_order n (length clauses)) [
@@ -300,11 +300,26 @@ clause_cases clauses last n watched at =
       ]
     ]
 
+-- what covers a clause does so where there is one more
+cover_more : (starts : List ℕ) (trail : List SatLit) (processed : ℕ) (clauses : List Watched) (new : Watched) (clause : List SatLit) → IsCovered starts trail processed clauses clause
+    → IsCovered starts trail processed (clauses ++ new ∷ []) clause
+cover_more starts trail processed clauses new clause cover = record {
+  at = cover.at;
+  part = cover.part;
+  there = slice_get-append clauses (new ∷ []) cover.at cover.part cover.there;
+  among = cover.among;
+  kept = cover.kept;
+}
+
+-- a clause that is kept covers itself
+pub cover_new : (starts : List ℕ) (trail : List SatLit) (processed : ℕ) (clauses : List Watched) (new : Watched) → IsKept starts trail processed new.clause new.first new.second
+    → IsCovered starts trail processed (clauses ++ new ∷ []) new.clause
+cover_new starts trail processed clauses new kept = record { at = length clauses; part = new; there = slice_get-seam clauses new; among = λ l h. h; kept = kept }
+
 -- what a new clause needs
 pub record IsFit (trail : TrailState) (processed : ℕ) (lists : List WatchPair) (n : ℕ) (watched : Watched) : Type 0 where
   pub kept : IsKept trail.starts (literals trail.steps) processed watched.clause watched.first watched.second
   pub members : (holds watched.clause watched.first ≡ true) × (holds watched.clause watched.second ≡ true)
-  pub alone : (l : SatLit) → watched.first ≡ watched.second → holds watched.clause l ≡ true → l ≡ watched.first
   pub listed : (l : SatLit) → watched.first ≢ watched.second → Watches watched l → NamesWatches (watchers lists l) n watched.clause
   pub over : IsOver (length trail.phases) watched.clause
 
@@ -321,17 +336,14 @@ right_inserted trail processed clauses lists new fit right = record {
       };
   started = right.started;
   processed_within = right.processed_within;
-  kept = λ n watched at. elim (clause_cases clauses new n watched at) [
-    | inl old ↦ right.kept n watched old
-    | inr last ↦ subst (λ (w : Watched). IsKept trail.starts (literals trail.steps) processed w.clause w.first w.second) last.1 fit.kept
+  covered = λ n watched at. elim (clause_cases clauses new n watched at) [
+    | inl old ↦ cover_more trail.starts (literals trail.steps) processed clauses new watched.clause (right.covered n watched old)
+    | inr last ↦ subst (λ (w : Watched). IsCovered trail.starts (literals trail.steps) processed (clauses ++ new ∷ []) w.clause) last.1
+        (cover_new trail.starts (literals trail.steps) processed clauses new fit.kept)
   ];
   members = λ n watched at. elim (clause_cases clauses new n watched at) [
     | inl old ↦ right.members n watched old
     | inr last ↦ subst (λ (w : Watched). (holds w.clause w.first ≡ true) × (holds w.clause w.second ≡ true)) last.1 fit.members
-  ];
-  alone = λ n watched l at. elim (clause_cases clauses new n watched at) [
-    | inl old ↦ right.alone n watched l old
-    | inr last ↦ subst (λ (w : Watched). w.first ≡ w.second → holds w.clause l ≡ true → l ≡ w.first) last.1 (fit.alone l)
   ];
   listed = λ n watched l at. elim (clause_cases clauses new n watched at) [
     | inl old ↦ right.listed n watched l old
@@ -372,7 +384,6 @@ right_watched trail processed n clauses lists more most clause first second n_is
         second_guarded = guarded_unseen trail.starts (literals trail.steps) processed clause second second_unseen;
       });
       members = (first_in, second_in);
-      alone = λ l e h. absurd (apart e);
       listed = λ l e watches. elim watches [
         | inl is_first ↦ subst (λ (m : SatLit). NamesWatches (watchers most m) n clause) is_first
             (names_longer more most second first (record { clause = n; blocker = first }) n clause enlists_next (names_new lists more first second n clause enlists second_in))
@@ -400,7 +411,6 @@ right_unit trail processed clauses lists clause l root true_now member alone ove
     right_inserted trail processed clauses lists (record { clause = clause; first = l; second = l }) (record {
       kept = inr (record { at_decisions = λ s at. absurd (no_start s (subst (λ (starts : List ℕ). Contains starts s) root at)); now = satisfied_by (literals trail.steps) clause l member true_now });
       members = (member, member);
-      alone = λ m e h. alone m h;
       listed = λ m apart watches. absurd (apart refl);
       over = over;
     }) right
@@ -464,17 +474,16 @@ right_unit_assigned trail after processed n clauses lists clause l n_is steps st
           }) i at;
       started = right.started;
       processed_within = omega (arith, right.processed_within, length-append trail.steps (last ∷ []));
-      kept = λ k watched at. elim (clause_cases clauses new k watched at) [
-        | inl old ↦ kept_old watched (right.kept k watched old)
-        | inr end ↦ subst (λ (w : Watched). IsKept trail.starts (literals (trail.steps ++ last ∷ [])) processed w.clause w.first w.second) end.1 kept_new
+      covered = λ k watched at. elim (clause_cases clauses new k watched at) [
+        | inl old ↦
+            let cover = right.covered k watched old in
+            record { at = cover.at; part = cover.part; there = slice_get-append clauses (new ∷ []) cover.at cover.part cover.there; among = cover.among; kept = kept_old cover.part cover.kept }
+        | inr end ↦ subst (λ (w : Watched). IsCovered trail.starts (literals (trail.steps ++ last ∷ [])) processed all w.clause) end.1
+            (cover_new trail.starts (literals (trail.steps ++ last ∷ [])) processed clauses new kept_new)
       ];
       members = λ k watched at. elim (clause_cases clauses new k watched at) [
         | inl old ↦ right.members k watched old
         | inr end ↦ subst (λ (w : Watched). (holds w.clause w.first ≡ true) × (holds w.clause w.second ≡ true)) end.1 (member, member)
-      ];
-      alone = λ k watched m at. elim (clause_cases clauses new k watched at) [
-        | inl old ↦ right.alone k watched m old
-        | inr end ↦ subst (λ (w : Watched). w.first ≡ w.second → holds w.clause m ≡ true → m ≡ w.first) end.1 (λ e h. alone m h)
       ];
       listed = λ k watched m at. elim (clause_cases clauses new k watched at) [
         | inl old ↦ right.listed k watched m old
@@ -508,9 +517,8 @@ right_empty = record {
   reasoned = λ i step at. absurd (none_at i step at);
   started = λ k d h. omega (arith, h);
   processed_within = omega arith;
-  kept = λ n watched at. absurd (none_at n watched at);
+  covered = λ n watched at. absurd (none_at n watched at);
   members = λ n watched at. absurd (none_at n watched at);
-  alone = λ n watched l at. absurd (none_at n watched at);
   listed = λ n watched l at. absurd (none_at n watched at);
   over = λ n watched at. absurd (none_at n watched at);
   lists_made = omega arith;
@@ -528,9 +536,8 @@ right_more_lists trail processed clauses lists right = record {
   reasoned = right.reasoned;
   started = right.started;
   processed_within = right.processed_within;
-  kept = right.kept;
+  covered = right.covered;
   members = right.members;
-  alone = right.alone;
   listed = λ n watched l at apart watches. subst (λ (entries : List Watch). NamesWatches entries n watched.clause) (sym (watchers_more lists l)) (right.listed n watched l at apart watches);
   over = right.over;
   lists_made = omega (arith, right.lists_made, length-append lists (no_watches ∷ []));
@@ -542,9 +549,8 @@ right_variable trail processed clauses lists room right = record {
   reasoned = λ i step at. let r = right.reasoned i step at in record { decided = r.decided; forced = r.forced };
   started = right.started;
   processed_within = right.processed_within;
-  kept = right.kept;
+  covered = right.covered;
   members = right.members;
-  alone = right.alone;
   listed = right.listed;
   over = λ n watched at. All-weaker (λ (l : SatLit). l.var.0 < length trail.phases) (λ (l : SatLit). l.var.0 < length (trail.phases ++ false ∷ []))
       (λ l h. omega (arith, h, length-append trail.phases (false ∷ []))) watched.clause (right.over n watched at);

@@ -15,13 +15,13 @@ use Rattle.std.proofs.lemmas.Option.{slice_get_cases, slice_get-map, get_or_from
 use Rattle.sat_base.specs.declared.literal.SatLit.{SatLit}
 use Rattle.sat_base.specs.Literal.{negated, holds, mentions_variable, HoldsNoVariableTwice, IsOver}
 use Rattle.sat_log.specs.Propagation.{IsUnitClause, IsFalseIn, IsConsistent}
-use Rattle.sat_laws.specs.Internal.Complete.{IsComplete}
+use Rattle.sat_laws.specs.Internal.Complete.{IsComplete, IsClausePart}
 use Rattle.sat_laws.specs.Internal.Watching.{IsKept}
 use Rattle.sat_laws.proofs.CompleteLaws.{consistent_once}
 use Rattle.sat_laws.proofs.WatchLaws.{kept_at, kept_now, held-take}
 use Rattle.sat_propagate.specs.Internal.Trail.{TrailState, literals, IsTrail, IsPhased}
 use Rattle.sat_propagate.specs.Internal.WatchLists.{WatchPair}
-use Rattle.sat_propagate.specs.Internal.Propagator.{IsPropagator, texts}
+use Rattle.sat_propagate.specs.Internal.Propagator.{IsPropagator, IsCovered, texts}
 use Rattle.sat_propagate.specs.declared.trail.Step.{Step}
 use Rattle.sat_propagate.specs.Internal.ClauseTable.{Watched}
 
@@ -41,33 +41,59 @@ text_at clauses clause there =
 consistent_part : (some : List SatLit) (s : ℕ) → HoldsNoVariableTwice some → IsConsistent (take s some)
 consistent_part some s once l h n = consistent_once some once l (held-take s some l h) (held-take s some (negated l) n)
 
+-- what is false in a clause is false in a part of it
+part_false : (trail part clause : List SatLit) → IsClausePart part clause → IsFalseIn trail clause → IsFalseIn trail part
+part_false trail part clause among each =
+    All-from_held (λ (m : SatLit). IsTrue (holds trail (negated m))) part (λ m h. All-held (λ (k : SatLit). IsTrue (holds trail (negated k))) clause m each (among m h))
+
+-- where a clause has one open literal, a part of it that is not false has the same
+part_unit : (trail part clause : List SatLit) (l : SatLit) → IsClausePart part clause → IsUnitClause trail clause l → (IsFalseIn trail part → ⊥) → IsUnitClause trail part l
+part_unit trail part clause l among unit not_false = record {
+  member = elim (cases_Bool (holds part l)) [
+    | inl held ↦ held
+    | inr absent ↦ absurd (not_false (All-from_held (λ (m : SatLit). IsTrue (holds trail (negated m))) part (λ m h.
+        unit.others m (among m h) (λ e. false≢true (sym absent ∙ ap (holds part) (sym e) ∙ h)))))
+  ];
+  still_open = unit.still_open;
+  others = λ m h apart. unit.others m (among m h) apart;
+}
+
 pub complete_at : (trail : TrailState) (processed : ℕ) (clauses : List Watched) (lists : List WatchPair) (s : ℕ) → IsPropagator trail processed clauses lists → IsTrail trail → Contains trail.starts s
     → IsComplete (texts clauses) (take s (literals trail.steps))
 complete_at trail processed clauses lists s right whole at = record {
   none_false = λ clause there each.
       let w = text_at clauses clause there in
-      (kept_at trail.starts (literals trail.steps) processed w.1.clause w.1.first w.1.second s at (consistent_part (literals trail.steps) s whole.once) (right.kept w.0 w.1 w.2)).0
-      (subst (IsFalseIn (take s (literals trail.steps))) (sym w.3) each);
+      let cover = right.covered w.0 w.1 w.2 in
+      (kept cover).0 (part_false (take s (literals trail.steps)) cover.part.clause w.1.clause cover.among (subst (IsFalseIn (take s (literals trail.steps))) (sym w.3) each));
   units_held = λ clause l there unit.
       let w = text_at clauses clause there in
-      (kept_at trail.starts (literals trail.steps) processed w.1.clause w.1.first w.1.second s at (consistent_part (literals trail.steps) s whole.once) (right.kept w.0 w.1 w.2)).1 l
-      (subst (λ (c : List SatLit). IsUnitClause (take s (literals trail.steps)) c l) (sym w.3) unit);
+      let cover = right.covered w.0 w.1 w.2 in
+      (kept cover).1 l (part_unit (take s (literals trail.steps)) cover.part.clause w.1.clause l cover.among
+      (subst (λ (c : List SatLit). IsUnitClause (take s (literals trail.steps)) c l) (sym w.3) unit) (kept cover).0);
 }
+  where
+    kept : {clause : List SatLit} (cover : IsCovered trail.starts (literals trail.steps) processed clauses clause)
+        → (IsFalseIn (take s (literals trail.steps)) cover.part.clause → ⊥) × ((l : SatLit) → IsUnitClause (take s (literals trail.steps)) cover.part.clause l → holds (take s (literals trail.steps)) l ≡ true)
+    kept cover = kept_at trail.starts (literals trail.steps) processed cover.part.clause cover.part.first cover.part.second s at (consistent_part (literals trail.steps) s whole.once) cover.kept
 
 pub complete_now : (trail : TrailState) (processed : ℕ) (clauses : List Watched) (lists : List WatchPair) → IsPropagator trail processed clauses lists → IsTrail trail → processed ≡ length trail.steps
     → IsComplete (texts clauses) (literals trail.steps)
 complete_now trail processed clauses lists right whole all = record {
   none_false = λ clause there each.
       let w = text_at clauses clause there in
-      (kept_now trail.starts (literals trail.steps) w.1.clause w.1.first w.1.second (consistent_once (literals trail.steps) whole.once) (kept w.0 w.1 w.2)).0 (subst (IsFalseIn (literals trail.steps)) (sym w.3) each);
+      let cover = right.covered w.0 w.1 w.2 in
+      (kept cover).0 (part_false (literals trail.steps) cover.part.clause w.1.clause cover.among (subst (IsFalseIn (literals trail.steps)) (sym w.3) each));
   units_held = λ clause l there unit.
       let w = text_at clauses clause there in
-      (kept_now trail.starts (literals trail.steps) w.1.clause w.1.first w.1.second (consistent_once (literals trail.steps) whole.once) (kept w.0 w.1 w.2)).1 l
-      (subst (λ (c : List SatLit). IsUnitClause (literals trail.steps) c l) (sym w.3) unit);
+      let cover = right.covered w.0 w.1 w.2 in
+      (kept cover).1 l (part_unit (literals trail.steps) cover.part.clause w.1.clause l cover.among
+      (subst (λ (c : List SatLit). IsUnitClause (literals trail.steps) c l) (sym w.3) unit) (kept cover).0);
 }
   where
-    kept : (n : ℕ) (w : Watched) → slice_get clauses n ≡ Some w → IsKept trail.starts (literals trail.steps) (length (literals trail.steps)) w.clause w.first w.second
-    kept n w at = subst (λ (q : ℕ). IsKept trail.starts (literals trail.steps) q w.clause w.first w.second) (all ∙ sym (length-map trail.steps (λ (s : Step). s.literal))) (right.kept n w at)
+    kept : {clause : List SatLit} (cover : IsCovered trail.starts (literals trail.steps) processed clauses clause)
+        → (IsFalseIn (literals trail.steps) cover.part.clause → ⊥) × ((l : SatLit) → IsUnitClause (literals trail.steps) cover.part.clause l → holds (literals trail.steps) l ≡ true)
+    kept cover = kept_now trail.starts (literals trail.steps) cover.part.clause cover.part.first cover.part.second (consistent_once (literals trail.steps) whole.once)
+        (subst (λ (q : ℕ). IsKept trail.starts (literals trail.steps) q cover.part.clause cover.part.first cover.part.second) (all ∙ sym (length-map trail.steps (λ (s : Step). s.literal))) cover.kept)
 
 -- the value that a phase gives a literal whose sign it is
 value_of : (value sign : Bool) → value ≡ sign → (if sign then value else not value) ≡ true

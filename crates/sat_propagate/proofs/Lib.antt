@@ -1,4 +1,5 @@
 pub mod ClauseTableLaws
+mod CodeLaws
 pub mod ListLaws
 pub mod PlaceLaws
 pub mod PropagatorLaws
@@ -7,3 +8,5 @@ pub mod TableLaws
 pub mod LevelLaws
 pub mod BackLaws
 pub mod InsertLaws
+pub mod DetachLaws
+pub mod ForcedLaws

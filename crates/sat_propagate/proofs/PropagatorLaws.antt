@@ -14,14 +14,14 @@ use Rattle.sat_base.specs.Literal.{negated, same_var, same_literal, holds, menti
 use Rattle.sat_base.proofs.LiteralLaws.{same_literal-true, same_literal-refl, holds-append, negated-negated, All-held}
 use Rattle.sat_log.specs.Propagation.{IsUnitClause}
 use Rattle.sat_log.proofs.ChainLaws.{slice_get-append, slice_get-before, slice_get-seam}
-use Rattle.sat_laws.specs.Internal.Complete.{satisfies}
+use Rattle.sat_laws.specs.Internal.Complete.{satisfies, IsClausePart}
 use Rattle.sat_laws.specs.Internal.Watching.{IsKept}
 use Rattle.sat_laws.proofs.CompleteLaws.{satisfied_by, satisfies-more}
 use Rattle.sat_laws.proofs.WatchLaws.{AreWithin, kept_push, kept_start, kept_next, kept_rewatched, kept_from_pair, kept_to_pair}
 use Rattle.sat_laws.proofs.TrailLaws.{held_at}
 use Rattle.sat_propagate.specs.Internal.Trail.{TrailState, literals, IsTrail}
 use Rattle.sat_propagate.specs.Internal.WatchLists.{WatchPair, NamesWatches, watchers}
-use Rattle.sat_propagate.specs.Internal.Propagator.{IsReasoned, IsPair, Watches, IsPropagator, IsWatchDone, AreDone, Rewatched, Enlists, Grew, texts}
+use Rattle.sat_propagate.specs.Internal.Propagator.{IsReasoned, IsPair, Watches, IsPropagator, IsWatchDone, AreDone, Rewatched, Detaches, IsCovered, Enlists, Grew, texts}
 use Rattle.sat_propagate.specs.declared.trail.Step.{Step}
 use Rattle.sat_propagate.specs.declared.watch_lists.Watch.{Watch}
 use Rattle.sat_propagate.specs.Internal.ClauseTable.{Watched}
@@ -49,9 +49,9 @@ removed_here before after l i entry r = r l ∙ if_true (same_literal l l) _ _ (
 -- 1. An entry is taken out that names no clause which watches the literal
 
 names_after_removal : (clauses : List Watched) (before after : List WatchPair) (from : SatLit) (i : ℕ) (entry : Watch) → i < length (watchers before from) → slice_get (watchers before from) i ≡ Some entry
-    → ((watched : Watched) → slice_get clauses entry.clause ≡ Some watched → Watches watched from → ⊥) → Removes before after from i entry
-    → (n : ℕ) (watched : Watched) (l : SatLit) → slice_get clauses n ≡ Some watched → Watches watched l → NamesWatches (watchers before l) n watched.clause → NamesWatches (watchers after l) n watched.clause
-names_after_removal clauses before after from i entry inside there idle removes n watched l at watches names =
+    → ((watched : Watched) → slice_get clauses entry.clause ≡ Some watched → watched.first ≢ watched.second → Watches watched from → ⊥) → Removes before after from i entry
+    → (n : ℕ) (watched : Watched) (l : SatLit) → slice_get clauses n ≡ Some watched → watched.first ≢ watched.second → Watches watched l → NamesWatches (watchers before l) n watched.clause → NamesWatches (watchers after l) n watched.clause
+names_after_removal clauses before after from i entry inside there idle removes n watched l at apart watches names =
     elim (cases_Bool (same_literal from l)) [
       | inl same ↦ here (same_literal-true from l same)
       | inr other ↦ subst (λ (entries : List Watch). NamesWatches entries n watched.clause) (sym (removes l ∙ if_false (same_literal from l) _ _ other)) names
@@ -61,7 +61,7 @@ names_after_removal clauses before after from i entry inside there idle removes 
     gone e same_place =
         let found : Some names.entry ≡ Some entry = sym names.there ∙ ap (slice_get (watchers before l)) same_place ∙ ap (λ (m : SatLit). slice_get (watchers before m) i) (sym e) ∙ there in
         let clause_is : entry.clause ≡ n = ap (λ (w : Watch). w.clause) (sym (same_Some _ _ found)) ∙ names.named in
-        idle watched (ap (slice_get clauses) clause_is ∙ at) (subst (Watches watched) (sym e) watches)
+        idle watched (ap (slice_get clauses) clause_is ∙ at) apart (subst (Watches watched) (sym e) watches)
 
     here : from ≡ l → NamesWatches (watchers after l) n watched.clause
     here e =
@@ -72,16 +72,15 @@ names_after_removal clauses before after from i entry inside there idle removes 
 
 pub right_removed : (trail : TrailState) (processed : ℕ) (clauses : List Watched) (before after : List WatchPair) (from : SatLit) (i : ℕ) (entry : Watch)
     → i < length (watchers before from) → slice_get (watchers before from) i ≡ Some entry
-    → ((watched : Watched) → slice_get clauses entry.clause ≡ Some watched → Watches watched from → ⊥) → Removes before after from i entry → length after ≡ length before
+    → ((watched : Watched) → slice_get clauses entry.clause ≡ Some watched → watched.first ≢ watched.second → Watches watched from → ⊥) → Removes before after from i entry → length after ≡ length before
     → IsPropagator trail processed clauses before → IsPropagator trail processed clauses after
 right_removed trail processed clauses before after from i entry inside there idle removes made right = record {
   reasoned = right.reasoned;
   started = right.started;
   processed_within = right.processed_within;
-  kept = right.kept;
+  covered = right.covered;
   members = right.members;
-  alone = right.alone;
-  listed = λ n watched l at apart watches. names_after_removal clauses before after from i entry inside there idle removes n watched l at watches (right.listed n watched l at apart watches);
+  listed = λ n watched l at apart watches. names_after_removal clauses before after from i entry inside there idle removes n watched l at apart watches (right.listed n watched l at apart watches);
   over = right.over;
   lists_made = omega (arith, made, right.lists_made);
 }
@@ -138,9 +137,8 @@ right_written trail processed clauses before after from i old entry inside there
   reasoned = right.reasoned;
   started = right.started;
   processed_within = right.processed_within;
-  kept = right.kept;
+  covered = right.covered;
   members = right.members;
-  alone = right.alone;
   listed = λ n watched l at apart watches. names_after_write clauses before after from i old entry inside there same_clause blocks replaces n watched l at (right.listed n watched l at apart watches);
   over = right.over;
   lists_made = omega (arith, made, right.lists_made);
@@ -186,7 +184,7 @@ step_cases steps last i step at =
 pub literals-push : (steps : List Step) (last : Step) → literals (steps ++ last ∷ []) ≡ literals steps ++ last.literal ∷ []
 literals-push steps last = map-append (λ (step : Step). step.literal) steps (last ∷ [])
 
-take_literals : (steps : List Step) (last : Step) (i : ℕ) → i ≤ length steps → take i (literals (steps ++ last ∷ [])) ≡ take i (literals steps)
+pub take_literals : (steps : List Step) (last : Step) (i : ℕ) → i ≤ length steps → take i (literals (steps ++ last ∷ [])) ≡ take i (literals steps)
 take_literals steps last i h =
     let short : i ≤ length (literals steps) = omega (arith, length-map steps (λ (step : Step). step.literal)) in
     ap (take i) (literals-push steps last) ∙ take-append-le i (literals steps) (last.literal ∷ []) short
@@ -237,13 +235,20 @@ right_longer trail phases processed clauses lists n watched l made there unit ri
   reasoned = λ i step at. reasoned_longer trail phases clauses (record { literal = l; reason = Some n }) step n watched refl there unit right.reasoned i at;
   started = right.started;
   processed_within = omega (arith, right.processed_within, length-append trail.steps (record { literal = l; reason = Some n } ∷ []));
-  kept = λ k other at.
+  covered = λ k other at.
       let inside : processed ≤ length (literals trail.steps) = omega (arith, right.processed_within, length-map trail.steps (λ (s : Step). s.literal)) in
-      subst (λ (list : List SatLit). IsKept trail.starts list processed other.clause other.first other.second)
-      (sym (literals-push trail.steps (record { literal = l; reason = Some n })))
-      (kept_push trail.starts (literals trail.steps) processed other.clause other.first other.second l (starts_within trail processed right.started right.processed_within) inside (right.kept k other at));
+      let cover = right.covered k other at in
+      let part = cover.part in
+      record {
+        at = cover.at;
+        part = part;
+        there = cover.there;
+        among = cover.among;
+        kept = subst (λ (list : List SatLit). IsKept trail.starts list processed part.clause part.first part.second)
+            (sym (literals-push trail.steps (record { literal = l; reason = Some n })))
+            (kept_push trail.starts (literals trail.steps) processed part.clause part.first part.second l (starts_within trail processed right.started right.processed_within) inside cover.kept);
+      };
   members = right.members;
-  alone = right.alone;
   listed = right.listed;
   over = λ k other at. subst (λ (m : ℕ). IsOver m other.clause) (sym made) (right.over k other at);
   lists_made = omega (arith, made, right.lists_made);
@@ -344,20 +349,11 @@ pub record IsFresh (trail : TrailState) (clause : List SatLit) (from to other : 
   pub apart : to ≢ other
   pub undenied : holds (literals trail.steps) (negated to) ≡ false
 
-pub distinct_pair : (watched : Watched) (from to other : SatLit) → IsPair watched from other → to ≢ from
-    → ((l : SatLit) → watched.first ≡ watched.second → holds watched.clause l ≡ true → l ≡ watched.first) → holds watched.clause to ≡ true → watched.first ≢ watched.second
-distinct_pair watched from to other (inl p) new alone member e = new (alone to e member ∙ p.0)
-distinct_pair watched from to other (inr p) new alone member e = new (alone to e member ∙ e ∙ p.0)
-
-pair_apart : (watched : Watched) (a b : SatLit) → IsPair watched a b → a ≢ b → watched.first ≢ watched.second
-pair_apart watched a b (inl p) apart e = apart (sym p.0 ∙ e ∙ p.1)
-pair_apart watched a b (inr p) apart e = apart (sym p.0 ∙ sym e ∙ p.1)
-
 pub right_rewatched : (trail : TrailState) (processed : ℕ) (before after : List Watched) (lists more : List WatchPair) (n : ℕ) (from to other : SatLit)
     (changed : Rewatched before after n from to other) → Enlists lists more to (record { clause = n; blocker = other }) → length more ≡ length lists
-    → IsFresh trail changed.old.clause from to other
+    → IsFresh trail changed.old.clause from to other → changed.old.first ≢ changed.old.second
     → IsPropagator trail processed before lists → IsPropagator trail processed after more
-right_rewatched trail processed before after lists more n from to other changed enlists made fresh right = record {
+right_rewatched trail processed before after lists more n from to other changed enlists made fresh distinct right = record {
   reasoned = λ i step at.
       let r = right.reasoned i step at in
       record {
@@ -366,17 +362,13 @@ right_rewatched trail processed before after lists more n from to other changed 
       };
   started = right.started;
   processed_within = right.processed_within;
-  kept = λ k watched at. elim (changed_cases before after n from to other changed k watched at) [
-    | inl same ↦ subst Kept same.1 kept_new
-    | inr old ↦ right.kept k watched old.1
+  covered = λ k watched at. elim (changed_cases before after n from to other changed k watched at) [
+    | inl same ↦ subst Covered (sym changed.text ∙ ap (λ (w : Watched). w.clause) same.1) (cover_after changed.old.clause (right.covered n changed.old changed.was))
+    | inr old ↦ cover_after watched.clause (right.covered k watched old.1)
   ];
   members = λ k watched at. elim (changed_cases before after n from to other changed k watched at) [
     | inl same ↦ subst Members same.1 (members_pair changed.new to other changed.pair_after to_in other_in)
     | inr old ↦ right.members k watched old.1
-  ];
-  alone = λ k watched l at e. elim (changed_cases before after n from to other changed k watched at) [
-    | inl same ↦ absurd (pair_apart changed.new to other changed.pair_after fresh.apart (ap (λ (w : Watched). w.first) same.1 ∙ e ∙ ap (λ (w : Watched). w.second) (sym same.1)))
-    | inr old ↦ right.alone k watched l old.1 e
   ];
   listed = λ k watched l at apart watches. elim (changed_cases before after n from to other changed k watched at) [
     | inl same ↦ listed_new k watched l same.0 same.1 watches
@@ -400,19 +392,37 @@ right_rewatched trail processed before after lists more n from to other changed 
     other_in : holds changed.new.clause other ≡ true
     other_in = ap (λ (c : List SatLit). holds c other) changed.text ∙ old_members.1
 
-    Kept : Watched → Type 0
-    Kept w = IsKept trail.starts (literals trail.steps) processed w.clause w.first w.second
+    Covered : List SatLit → Type 0
+    Covered clause = IsCovered trail.starts (literals trail.steps) processed after clause
 
     Members : Watched → Type 0
     Members w = (holds w.clause w.first ≡ true) × (holds w.clause w.second ≡ true)
 
-    kept_new : IsKept trail.starts (literals trail.steps) processed changed.new.clause changed.new.first changed.new.second
-    kept_new =
+    kept_new : IsKept trail.starts (literals trail.steps) processed changed.old.clause changed.old.first changed.old.second
+        → IsKept trail.starts (literals trail.steps) processed changed.new.clause changed.new.first changed.new.second
+    kept_new was_kept =
         kept_to_pair trail.starts (literals trail.steps) processed changed.new.clause changed.new.first changed.new.second to other changed.pair_after
         (subst (λ (c : List SatLit). IsKept trail.starts (literals trail.steps) processed c to other) (sym changed.text)
         (kept_rewatched trail.starts (literals trail.steps) processed changed.old.clause from to other fresh.member fresh.apart fresh.undenied
-        (kept_from_pair trail.starts (literals trail.steps) processed changed.old.clause changed.old.first changed.old.second from other changed.pair_before
-        (right.kept n changed.old changed.was))))
+        (kept_from_pair trail.starts (literals trail.steps) processed changed.old.clause changed.old.first changed.old.second from other changed.pair_before was_kept)))
+
+    cover_after : (clause : List SatLit) → IsCovered trail.starts (literals trail.steps) processed before clause → IsCovered trail.starts (literals trail.steps) processed after clause
+    cover_after clause cover =
+        elim (cases_order cover.at n) [
+          | inl same ↦
+              let is_old : cover.part ≡ changed.old = same_Some _ _ (sym cover.there ∙ ap (slice_get before) same ∙ changed.was) in
+              record {
+                at = n;
+                part = changed.new;
+                there = changed.is;
+                among = subst (λ (c : List SatLit). IsClausePart c clause) (ap (λ (w : Watched). w.clause) is_old ∙ sym changed.text) cover.among;
+                kept = kept_new (subst (λ (w : Watched). IsKept trail.starts (literals trail.steps) processed w.clause w.first w.second) is_old cover.kept);
+              }
+          | inr apart ↦ elim apart [
+            | inl less ↦ let ne : cover.at ≢ n = omega arith in record { at = cover.at; part = cover.part; there = changed.others cover.at ne ∙ cover.there; among = cover.among; kept = cover.kept }
+            | inr more_than ↦ let ne : cover.at ≢ n = omega arith in record { at = cover.at; part = cover.part; there = changed.others cover.at ne ∙ cover.there; among = cover.among; kept = cover.kept }
+          ]
+        ]
 
     reason_after : (k : ℕ) (earlier : List SatLit) (l : SatLit) → (watched : Watched) × (slice_get before k ≡ Some watched) × IsUnitClause earlier watched.clause l
         → (watched : Watched) × (slice_get after k ≡ Some watched) × IsUnitClause earlier watched.clause l
@@ -439,8 +449,7 @@ right_rewatched trail processed before after lists more n from to other changed 
           | inr is_other ↦ subst (λ (m : SatLit). NamesWatches (watchers more m) n changed.new.clause) (sym is_other)
               (subst (λ (c : List SatLit). NamesWatches (watchers more other) n c) (sym changed.text)
               (names_longer lists more to other (record { clause = n; blocker = other }) n changed.old.clause enlists
-              (right.listed n changed.old other changed.was
-              (distinct_pair changed.old from to other changed.pair_before fresh.new (λ m e h. right.alone n changed.old m changed.was e h) fresh.member)
+              (right.listed n changed.old other changed.was distinct
               (pair_watches changed.old from other changed.pair_before))))
         ]))
 
@@ -494,9 +503,10 @@ right_next trail processed clauses lists step falsified right at is done = recor
   reasoned = right.reasoned;
   started = λ k d h. let before = right.started k d h in omega arith;
   processed_within = omega (arith, inside);
-  kept = λ n watched there. next_kept n watched there (right.kept n watched there);
+  covered = λ n watched there.
+      let cover = right.covered n watched there in
+      record { at = cover.at; part = cover.part; there = cover.there; among = cover.among; kept = next_kept cover.at cover.part cover.there cover.kept };
   members = right.members;
-  alone = right.alone;
   listed = right.listed;
   over = right.over;
   lists_made = right.lists_made;
@@ -612,13 +622,13 @@ right_decided trail after processed clauses lists l steps starts made whole righ
           }
         ]
 
-    kept : (n : ℕ) (watched : Watched) → slice_get clauses n ≡ Some watched
+    kept : (watched : Watched) → IsKept trail.starts (literals trail.steps) processed watched.clause watched.first watched.second
         → IsKept (trail.starts ++ length trail.steps ∷ []) (literals (trail.steps ++ record { literal = l; reason = None } ∷ [])) processed watched.clause watched.first watched.second
-    kept n watched at =
+    kept watched was_kept =
         let same_length : length (literals trail.steps) ≡ length trail.steps = length-map trail.steps (λ (s : Step). s.literal) in
         let all : processed ≡ length (literals trail.steps) = whole ∙ sym same_length in
         let started = kept_start trail.starts (literals trail.steps) watched.clause watched.first watched.second
-        (subst (λ (q : ℕ). IsKept trail.starts (literals trail.steps) q watched.clause watched.first watched.second) all (right.kept n watched at)) in
+        (subst (λ (q : ℕ). IsKept trail.starts (literals trail.steps) q watched.clause watched.first watched.second) all was_kept) in
         let within : AreWithin (trail.starts ++ length (literals trail.steps) ∷ []) (length (literals trail.steps)) = λ s there. elim (Contains-push_cases trail.starts (length (literals trail.steps)) s there) [
           | inl before ↦ starts_within trail processed right.started right.processed_within s before
           | inr here ↦ omega arith
@@ -633,9 +643,10 @@ right_decided trail after processed clauses lists l steps starts made whole righ
       reasoned = reasoned;
       started = All-push (λ (s : ℕ). s ≤ processed) trail.starts (length trail.steps) right.started (omega (arith, whole));
       processed_within = omega (arith, right.processed_within, length-append trail.steps (record { literal = l; reason = None } ∷ []));
-      kept = kept;
+      covered = λ n watched at.
+          let cover = right.covered n watched at in
+          record { at = cover.at; part = cover.part; there = cover.there; among = cover.among; kept = kept cover.part cover.kept };
       members = right.members;
-      alone = right.alone;
       listed = right.listed;
       over = λ k other at. subst (λ (m : ℕ). IsOver m other.clause) (sym made) (right.over k other at);
       lists_made = omega (arith, made, right.lists_made);

@@ -1,5 +1,5 @@
 -- The table of a trail.
-use Rattle.std.proofs.Common.{◌≡◌, ◌≢◌, ◌⊎◌, inl, inr, ◌<◌, ◌≤◌, ◌+◌, ◌↔◌, ℕ, zero, suc, ◌&&◌, ◌||◌, not, Bool, true, false, List, [], ◌∷◌, ◌++◌, Option, Some, IsTrue, map, length, take, drop, get_or, set, refl, sym, ap, ◌∙◌, subst, arith, length-append, length-set, get_or-set_other, get_or-set_same}
+use Rattle.std.proofs.Common.{◌≡◌, ◌≢◌, ◌⊎◌, inl, inr, ◌<◌, ◌≤◌, ◌+◌, ◌↔◌, ℕ, zero, suc, ◌&&◌, ◌||◌, not, Bool, true, false, List, [], ◌∷◌, ◌++◌, Option, Some, IsTrue, map, length, take, drop, get_or, set, refl, sym, ap, ◌∙◌, subst, if◌then◌else◌, ◌*◌, arith, length-append, length-set, get_or-set_other, get_or-set_same}
 use Rattle.std.specs.Bool.{beq}
 use Rattle.std.specs.List.{All, slice_get}
 use Rattle.std.specs.Option.{option_map}
@@ -12,16 +12,18 @@ use Rattle.std.proofs.Math.ListN.{get_or-map}
 use Rattle.sat_base.specs.declared.literal.Var.{Var}
 use Rattle.sat_base.specs.declared.literal.SatLit.{SatLit}
 use Rattle.sat_base.specs.Literal.{literal, same_var, same_literal, holds, mentions_variable, HoldsNoVariableTwice, IsOver}
-use Rattle.sat_base.proofs.LiteralLaws.{same_var-refl, same_var-true, holds-append, mentions-held, All-held, All-from_held}
+use Rattle.sat_laws.specs.Internal.Packing.{packed, unpacked}
+use Rattle.sat_laws.proofs.PackingLaws.{unpacked-packed}
+use Rattle.sat_base.proofs.LiteralLaws.{same_literal-refl, same_literal-true, same_literal-comm, same_var-refl, same_var-true, holds-append, mentions-held, All-held, All-from_held}
 use Rattle.sat_laws.proofs.TrailLaws.{held_at}
-use Rattle.sat_propagate.specs.Internal.Trail.{TrailState, literals, open_cell, cell_of, is_true_in, IsTabled, IsTrail, IsTrailInside}
+use Rattle.sat_propagate.specs.Internal.Trail.{TrailState, literals, open_cell, cell_of, is_true_in, is_true_by, SetsValue, AreValues, IsTabled, IsTrail, IsTrailInside}
 use Rattle.sat_propagate.specs.declared.trail.Step.{Step}
 use Rattle.sat_propagate.specs.declared.trail.Cell.{Cell}
 use Rattle.sat_propagate.proofs.ListLaws.{get-take, map-set_same, unmentioned}
 use Rattle.sat_propagate.proofs.PlaceLaws.{literal_at, once_place, not_after}
 use Rattle.sat_laws.proofs.AnalysisLaws.{place_below}
 use Rattle.sat_laws.proofs.WatchLaws.{held-take}
-use Rattle.sat_propagate.proofs.PropagatorLaws.{step_cases, literals-push, trail_short}
+use Rattle.sat_propagate.proofs.PropagatorLaws.{step_cases, literals-push, trail_short, if_true, if_false}
 
 phases_of : List Cell → List Bool
 phases_of cells = map (λ (cell : Cell). cell.positive) cells
@@ -432,3 +434,83 @@ trail_room trail v right made absent =
     let longer = trail_short (length trail.phases) (literals trail.steps ++ literal v true ∷ []) (once_push (literals trail.steps) (literal v true) right.once absent)
     (All-push (λ (m : SatLit). m.var.0 < length trail.phases) (literals trail.steps) (literal v true) right.over made) in
     omega (arith, length-append (literals trail.steps) (literal v true ∷ []), length-map trail.steps (λ (s : Step). s.literal))
+
+-- a byte that was written, and the others
+pub byte_written : (values : List Bool) (l : SatLit) (value : Bool) → packed l < length values → SetsValue values (set values (packed l) value) l value
+byte_written values l value inside = record {
+  values = λ m. elim (cases_Bool (same_literal l m)) [
+    | inl same ↦
+        ap (λ (k : SatLit). is_true_by (set values (packed l) value) k) (sym (same_literal-true l m same))
+        ∙ get_or-set_same values (packed l) value false inside
+        ∙ sym (if_true (same_literal l m) value (is_true_by values m) same)
+    | inr apart ↦
+        get_or-set_other values (packed l) (packed m) value false (λ e. false≢true (sym apart ∙ subst (λ (k : SatLit). same_literal l k ≡ true) (packed_same l m (sym e)) (same_literal-refl l)))
+        ∙ sym (if_false (same_literal l m) value (is_true_by values m) apart)
+  ];
+  made = length-set values (packed l) value;
+}
+  where
+    packed_same : (l m : SatLit) → packed l ≡ packed m → l ≡ m
+    packed_same l m e = sym (unpacked-packed l) ∙ ap unpacked e ∙ unpacked-packed m
+
+pub number_below : (l : SatLit) → packed l < l.var.0 * 2 + 2
+number_below l = go l.positive
+  where
+    go : (b : Bool) → l.var.0 * 2 + (if b then 1 else 0) < l.var.0 * 2 + 2
+    go true = omega arith
+    go false = omega arith
+
+not_held_apart : (l m : SatLit) → same_literal l m ≡ false → same_literal m l ≡ false
+not_held_apart l m apart = same_literal-comm m l ∙ apart
+
+-- the bytes after a literal became true
+pub values_assigned : (values after : List Bool) (cells written : List Cell) (steps longer : List Step) (l : SatLit) (reason : Option ℕ)
+    → IsTabled cells steps → IsTabled written longer → longer ≡ steps ++ record { literal = l; reason = reason } ∷ [] → AreValues values cells → SetsValue values after l true → length written ≡ length cells
+    → AreValues after written
+values_assigned values after cells written steps longer l reason tabled tabled_longer longer_is valued sets same_count = record {
+  same = λ m. elim (cases_Bool (same_literal l m)) [
+    | inl same ↦
+        sets.values m ∙ if_true (same_literal l m) true (is_true_by values m) same
+        ∙ sym (tabled_longer.values m ∙ held m ∙ or_right (holds (literals steps) m) _ (or_left (same_literal m l) false (same_literal-comm m l ∙ same)))
+    | inr apart ↦
+        sets.values m ∙ if_false (same_literal l m) true (is_true_by values m) apart ∙ valued.same m ∙ tabled.values m
+        ∙ sym (or_false (holds (literals steps) m))
+        ∙ ap (λ (b : Bool). holds (literals steps) m || (b || false)) (sym (not_held_apart l m apart))
+        ∙ sym (tabled_longer.values m ∙ held m)
+  ];
+  made = sets.made ∙ valued.made ∙ ap (λ (n : ℕ). n * 2) (sym same_count);
+}
+  where
+    held : (m : SatLit) → holds (literals longer) m ≡ (holds (literals steps) m || (same_literal m l || false))
+    held m = ap (λ (list : List Step). holds (literals list) m) longer_is
+        ∙ ap (λ (some : List SatLit). holds some m) (literals-push steps (record { literal = l; reason = reason })) ∙ holds-append (literals steps) (l ∷ []) m
+
+-- the bytes after a step was taken out
+pub values_undone : (values after : List Bool) (before cells written : List Cell) (steps : List Step) (start i : ℕ) (step : Step)
+    → IsUndone before cells steps start i → IsUndone before written steps start (i + 1) → slice_get steps i ≡ Some step → is_true_in written step.literal ≡ false
+    → AreValues values cells → SetsValue values after step.literal false → length written ≡ length cells → AreValues after written
+values_undone values after before cells written steps start i step undone next at gone valued sets same_count = record {
+  same = λ m. elim (cases_Bool (same_literal step.literal m)) [
+    | inl same ↦
+        sets.values m ∙ if_true (same_literal step.literal m) false (is_true_by values m) same ∙ sym (ap (is_true_in written) (sym (same_literal-true step.literal m same)) ∙ gone)
+    | inr apart ↦
+        sets.values m ∙ if_false (same_literal step.literal m) false (is_true_by values m) apart ∙ valued.same m ∙ undone.values m
+        ∙ ap (λ (b : Bool). holds (take start (literals steps)) m || b) (drop_next (literals steps) i step.literal m (literal_at steps i step at)
+        ∙ ap (λ (b : Bool). b || holds (drop (i + 1) (literals steps)) m) (not_held_apart step.literal m apart))
+        ∙ sym (next.values m)
+  ];
+  made = sets.made ∙ valued.made ∙ ap (λ (n : ℕ). n * 2) (sym same_count);
+}
+
+-- a step that was taken out is not true
+pub gone_cell : (cells : List Cell) (l : SatLit) (positive : Bool) (place : ℕ) → l.var.0 < length cells → is_true_in (set cells l.var.0 (record { assigned = false; positive = positive; place = place })) l ≡ false
+gone_cell cells l positive place inside =
+    ap (λ (cell : Cell). cell.assigned && beq cell.positive l.positive) (cell_written cells l.var (record { assigned = false; positive = positive; place = place }) inside)
+
+-- the bytes after one more variable
+pub values_variable : (values after : List Bool) (cells : List Cell) → AreValues values cells → ((l : SatLit) → is_true_by after l ≡ is_true_by values l) → length after ≡ length values + 2
+    → AreValues after (cells ++ open_cell ∷ [])
+values_variable values after cells valued same longer = record {
+  same = λ l. same l ∙ valued.same l ∙ ap (λ (cell : Cell). cell.assigned && beq cell.positive l.positive) (sym (get_or-default cells l.var.0 open_cell));
+  made = let count = valued.made in omega (arith, length-append cells (open_cell ∷ []));
+}

@@ -8,7 +8,7 @@ use sat_base::SatLit;
 use std::alloc::{AllocError, Global};
 use std::marker::Model;
 
-/// A clause's watched literals, or twice its only one, and where its literals stand.
+/// A clause's watched literals, or twice one of it where it watches none, and where its literals stand.
 #[derive(Clone, Copy, Debug)]
 pub struct Head {
     pub first: Packed,
@@ -22,11 +22,11 @@ impl Head {
     ghost use Rattle.sat_propagate.specs.Internal.Propagator.{IsPair};
 
     /// Watches a literal in place of another one.
-    fn replace(&mut self, from: SatLit, to: Packed)
+    fn replace(&mut self, from: Packed, to: Packed)
         ensures place { (self.new.start ≡ self.old.start) × (self.new.len ≡ self.old.len) }
         ensures pair { (literals : List SatLit) (other : SatLit) → IsPair (with_head literals self.old) from other → IsPair (with_head literals self.new) to other }
     {
-        if self.first.literal() == from {
+        if self.first.is(from) {
             self.first = to;
         } else {
             self.second = to;
@@ -52,7 +52,7 @@ impl Model for ClauseTable {
 }
 
 impl ClauseTable {
-    ghost use Rattle.sat_propagate.specs.Internal.Propagator.{IsPair, Watches, Rewatched};
+    ghost use Rattle.sat_propagate.specs.Internal.Propagator.{IsPair, Watches, Rewatched, Detaches};
 
     pub fn new(alloc: Global) -> Self
         ensures { result.items ≡ [] }
@@ -80,14 +80,18 @@ impl ClauseTable {
     }
 
     /// The other watched literal of a clause that watches this one. None where it doesn't, or there is no such clause.
-    pub fn other(&self, n: usize, literal: SatLit) -> Option<Packed>
-        ensures some { IfSome result (λ l. (watched : Watched) × (slice_get self.now.items n ≡ Some watched) × IsPair watched literal l) }
-        ensures none { IfNone result ((watched : Watched) → slice_get self.now.items n ≡ Some watched → (watched.first ≢ literal) × (watched.second ≢ literal)) }
+    pub fn other(&self, n: usize, literal: Packed) -> Option<Packed>
+        ensures some { IfSome result (λ l. (watched : Watched) × (slice_get self.now.items n ≡ Some watched) × (watched.first ≢ watched.second) × IsPair watched literal l) }
+        ensures none { IfNone result ((watched : Watched) → slice_get self.now.items n ≡ Some watched → watched.first ≢ watched.second → (watched.first ≢ literal) × (watched.second ≢ literal)) }
     {
         let head = self.heads.get(n)?;
-        if head.first.literal() == literal {
+        let is_detached = head.first.is(head.second);
+        if is_detached {
+            return None;
+        }
+        if head.first.is(literal) {
             Some(head.second)
-        } else if head.second.literal() == literal {
+        } else if head.second.is(literal) {
             Some(head.first)
         } else {
             None
@@ -95,12 +99,12 @@ impl ClauseTable {
     }
 
     /// The other watched literal of a clause that watches this one.
-    pub fn other_than(&self, n: usize, literal: SatLit) -> Packed
+    pub fn other_than(&self, n: usize, literal: Packed) -> Packed
         requires { n < length self.now.items }
         ensures { (watched : Watched) → slice_get self.now.items n ≡ Some watched → Watches watched literal → IsPair watched literal result }
     {
         let head = &self.heads[n];
-        if head.first.literal() == literal {
+        if head.first.is(literal) {
             head.second
         } else {
             head.first
@@ -137,12 +141,21 @@ impl ClauseTable {
     }
 
     /// A clause watches a literal in place of another one.
-    pub fn replace(&mut self, n: usize, from: SatLit, to: Packed)
+    pub fn replace(&mut self, n: usize, from: Packed, to: Packed)
         requires { n < length self.old.items }
         ensures { (old : Watched) (other : SatLit) → slice_get self.old.items n ≡ Some old → IsPair old from other → Rewatched self.old.items self.new.items n from to other }
     {
         let head = &mut self.heads[n];
         head.replace(from, to);
+    }
+
+    /// A clause watches none of its literals any more.
+    pub fn detach(&mut self, n: usize)
+        requires { n < length self.old.items }
+        ensures { Detaches self.old.items self.new.items n }
+    {
+        let head = &mut self.heads[n];
+        head.second = head.first;
     }
 }
 

@@ -6,27 +6,20 @@ ghost use Rattle.sat_propagate.specs.Internal.Trail.{literals};
 use crate::trail::Trail;
 use sat_base::Var;
 use std::alloc::{AllocError, Global};
-use std::collections::BinaryHeap;
 
-/// A variable with its score when it was put into the heap.
-#[derive(Clone, Copy, Debug, PartialEq, Eq, PartialOrd, Ord)]
-struct Proposal {
-    score: u64,
-    var: usize,
-}
-
-/// A variable's score, and whether a proposal with that score is in the heap.
+/// A variable's score, its place in the heap if it is there, and the value that it is given where it is decided.
 #[derive(Clone, Copy, Debug)]
 struct Standing {
     score: u64,
-    is_proposed: bool,
+    place: Option<usize>,
+    sign: bool,
 }
 
-/// Proposes variables, those that took part in recent conflicts first. A proposal whose score is out of date is skipped.
-/// Nothing rests on what is proposed.
+/// Proposes variables, those that took part in recent conflicts first, and of two with equal scores the newer one. The
+/// heap has variables that may be open: none comes before the one above it. Nothing rests on what is proposed.
 #[derive(Debug, Drop)]
 pub struct Decider {
-    heap: BinaryHeap<Proposal>,
+    heap: Vec<Var>,
     standings: Vec<Standing>,
     gain: u64,
 }
@@ -36,10 +29,16 @@ const FIRST_GAIN: u64 = 1 << 16;
 
 const MOST_GAIN: u64 = 1 << 56;
 
+// A gain is greater than that of the conflict before by this part of it.
+const GROWTH: u64 = 20;
+
+// No heap is higher.
+const HEIGHT: usize = 64;
+
 impl Decider {
     pub fn new(alloc: Global) -> Self {
         Decider {
-            heap: BinaryHeap::new(alloc),
+            heap: Vec::new(alloc),
             standings: Vec::new(alloc),
             gain: FIRST_GAIN,
         }
@@ -49,7 +48,8 @@ impl Decider {
         let var = Var(self.standings.len());
         self.standings.push(Standing {
             score: 0,
-            is_proposed: false,
+            place: None,
+            sign: false,
         })?;
         self.propose(var);
         Ok(())
@@ -57,7 +57,7 @@ impl Decider {
 
     /// A conflict was met in which these variables took part. Later ones count more.
     pub fn advance(&mut self, variables: &[Var]) {
-        self.gain = self.gain.saturating_add(self.gain / 16);
+        self.gain = self.gain.saturating_add(self.gain / GROWTH);
         if self.gain > MOST_GAIN {
             self.rescale();
         }
@@ -70,32 +70,32 @@ impl Decider {
         let gain = self.gain;
         if let Some(standing) = self.standings.get_mut(var.0) {
             standing.score = standing.score.saturating_add(gain);
-            standing.is_proposed = false;
+            if let Some(place) = standing.place {
+                self.rise(var, place);
+            }
         }
     }
 
     fn rescale(&mut self) {
         self.gain = FIRST_GAIN;
-        self.heap.clear();
         for standing in self.standings.iter_mut() {
             standing.score /= MOST_GAIN / FIRST_GAIN;
-            standing.is_proposed = false;
         }
-        for v in 0..self.standings.len() {
-            self.propose(Var(v));
+        for place in (0..self.heap.len()).rev() {
+            if let Some(var) = self.heap.get(place).copied() {
+                self.sink(var, place);
+            }
         }
     }
 
     /// A variable is open again. Where there is no memory it is not proposed.
     pub fn propose(&mut self, var: Var) {
-        if let Some(standing) = self.standings.get_mut(var.0) {
-            if !standing.is_proposed {
-                let proposal = Proposal {
-                    score: standing.score,
-                    var: var.0,
-                };
-                standing.is_proposed = self.heap.push(proposal).is_ok();
-            }
+        if self.place(var).is_some() {
+            return;
+        }
+        let place = self.heap.len();
+        if self.heap.push(var).is_ok() {
+            self.rise(var, place);
         }
     }
 
@@ -103,27 +103,124 @@ impl Decider {
     pub fn next(&mut self, trail: &Trail) -> Option<Var>
         ensures { IfSome result (λ v. (v.0 < length trail.now.phases) × (mentions_variable (literals trail.now.steps) v ≡ false)) }
     {
-        while let Some(proposal) = self.heap.pop() {
-            let var = Var(proposal.var);
-            if self.is_current(proposal) && var.0 < trail.variables() && trail.is_open(var) {
+        for _ in 0..self.heap.len() {
+            let var = self.pop()?;
+            if var.0 < trail.variables() && trail.is_open(var) {
                 return Some(var);
             }
         }
         None
     }
 
-    fn is_current(&mut self, proposal: Proposal) -> bool
-        ensures { self.new.heap ≡ self.old.heap }
-    {
-        match self.standings.get_mut(proposal.var) {
-            Some(standing) => {
-                let current = standing.is_proposed && standing.score == proposal.score;
-                if current {
-                    standing.is_proposed = false;
-                }
-                current
-            }
+    /// Takes the first variable out of the heap. The last one is sorted in from its place.
+    fn pop(&mut self) -> Option<Var> {
+        let last = self.heap.pop()?;
+        let Some(first) = self.heap.first().copied() else {
+            self.set_place(last, None);
+            return Some(last);
+        };
+        self.set_place(first, None);
+        self.sink(last, 0);
+        Some(first)
+    }
+
+    /// The value that a variable is given where it is decided.
+    pub fn sign(&self, var: Var) -> bool {
+        match self.standings.get(var.0) {
+            Some(standing) => standing.sign,
             None => false,
+        }
+    }
+
+    pub fn wish(&mut self, var: Var, sign: bool) {
+        if let Some(standing) = self.standings.get_mut(var.0) {
+            standing.sign = sign;
+        }
+    }
+
+    /// Wishes a value for each variable.
+    pub fn wish_all(&mut self, signs: &[bool]) {
+        for v in 0..signs.len() {
+            self.wish(Var(v), signs[v]);
+        }
+    }
+
+    fn place(&self, var: Var) -> Option<usize> {
+        self.standings.get(var.0)?.place
+    }
+
+    fn set_place(&mut self, var: Var, place: Option<usize>) {
+        if let Some(standing) = self.standings.get_mut(var.0) {
+            standing.place = place;
+        }
+    }
+
+    fn put(&mut self, var: Var, place: usize) {
+        if let Some(slot) = self.heap.get_mut(place) {
+            *slot = var;
+        }
+        self.set_place(var, Some(place));
+    }
+
+    fn score(&self, var: Var) -> u64 {
+        match self.standings.get(var.0) {
+            Some(standing) => standing.score,
+            None => 0,
+        }
+    }
+
+    fn is_before(&self, var: Var, other: Var) -> bool {
+        let score = self.score(var);
+        let others = self.score(other);
+        score > others || score == others && var.0 > other.0
+    }
+
+    /// Puts a variable at a place of the heap or above, those that it comes before below it.
+    fn rise(&mut self, var: Var, place: usize) {
+        let mut at = place;
+        for _ in 0..HEIGHT {
+            let Some(before) = at.checked_sub(1) else {
+                break;
+            };
+            let upper = before / 2;
+            let Some(above) = self.heap.get(upper).copied() else {
+                break;
+            };
+            if !self.is_before(var, above) {
+                break;
+            }
+            self.put(above, at);
+            at = upper;
+        }
+        self.put(var, at);
+    }
+
+    /// Puts a variable at a place of the heap or below, those that come before it above it.
+    fn sink(&mut self, var: Var, place: usize) {
+        let mut at = place;
+        for _ in 0..HEIGHT {
+            let Some(lower) = self.lower(at) else {
+                break;
+            };
+            let Some(below) = self.heap.get(lower).copied() else {
+                break;
+            };
+            if !self.is_before(below, var) {
+                break;
+            }
+            self.put(below, at);
+            at = lower;
+        }
+        self.put(var, at);
+    }
+
+    /// Of the two places below a place that of the variable which comes first.
+    fn lower(&self, at: usize) -> Option<usize> {
+        let left = at.checked_mul(2)?.checked_add(1)?;
+        let right = left.checked_add(1)?;
+        match (self.heap.get(left), self.heap.get(right)) {
+            (Some(a), Some(b)) if self.is_before(*b, *a) => Some(right),
+            _ => Some(left),
         }
     }
 }

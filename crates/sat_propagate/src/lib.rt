@@ -6,6 +6,7 @@ mod decider;
 mod packed;
 mod propagator;
 mod trail;
+mod values;
 mod watch_lists;
 
 pub use clause_table::ClauseTable;

@@ -1,5 +1,7 @@
 //! Literals in four bytes.
-ghost use Rattle.std.specs.Prelude.{◌≡◌, IfOk};
+ghost use Rattle.std.specs.Prelude.{◌≡◌, ◌<◌, ◌+◌, ◌*◌, ◌^◌, IfOk};
+ghost use Rattle.sat_base.specs.Literal.{negated, same_literal};
+ghost use Rattle.sat_laws.specs.Internal.Packing.{packed};
 
 use sat_base::{SatLit, Var};
 use std::alloc::AllocError;
@@ -51,6 +53,42 @@ impl Packed {
             var: Var((self.code / 2) as usize),
             positive: self.code % 2 == 1,
         }
+    }
+
+    /// Whether two literals are one.
+    pub fn is(self, other: Packed) -> bool
+        ensures { result ≡ same_literal self other }
+    {
+        self.code == other.code
+    }
+
+    /// The literal as a number.
+    pub fn number(self) -> usize
+        ensures { result ≡ packed self }
+    {
+        self.code as usize
+    }
+
+    /// The literal on the same variable with the other sign.
+    pub fn negated(self) -> Packed
+        ensures { result ≡ negated self }
+    {
+        let sign = self.code % 2;
+        Packed {
+            code: self.code - sign + (1 - sign),
+        }
+    }
+}
+
+/// The number of a literal as it is packed.
+pub fn number_of(literal: SatLit) -> usize
+    requires { literal.var.0 * 2 + 1 < 2 ^ 64 }
+    ensures { result ≡ packed literal }
+{
+    if literal.positive {
+        literal.var.0 * 2 + 1
+    } else {
+        literal.var.0 * 2
     }
 }
 

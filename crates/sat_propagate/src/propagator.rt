@@ -1,11 +1,11 @@
 //! Unit propagation over clauses with two watched literals each.
-ghost use Rattle.std.specs.Prelude.{◌≡◌, ◌≢◌, ◌⊎◌, ◌<◌, ◌≤◌, [], ◌∷◌, ◌++◌, ◌+◌, ℕ, Some, None, Option, IsTrue, true, false, length, map, take, slice_get, slice_index_or, IfOk, IfSome, IfNone, OnOk, OnErr, MatchOption};
+ghost use Rattle.std.specs.Prelude.{◌≡◌, ◌≢◌, ◌⊎◌, ◌<◌, ◌≤◌, [], ◌∷◌, ◌++◌, ◌+◌, ◌^◌, ℕ, Some, None, Option, IsTrue, true, false, length, map, take, slice_get, slice_index_or, IfOk, IfSome, IfNone, OnOk, OnErr, MatchOption};
 ghost use Rattle.std.specs.List.{All, Contains};
 ghost use Rattle.sat_base.specs.declared.literal.SatLit.{SatLit};
 ghost use Rattle.sat_base.specs.Literal.{holds, negated, mentions_variable, IsOver};
 ghost use Rattle.sat_base.specs.Truth.{AllTrue, assigned};
-ghost use Rattle.sat_laws.specs.Internal.Complete.{satisfies};
-ghost use Rattle.sat_log.specs.Propagation.{IsFalseIn};
+ghost use Rattle.sat_laws.specs.Internal.Complete.{satisfies, IsClausePart};
+ghost use Rattle.sat_log.specs.Propagation.{IsFalseIn, IsUnitClause};
 ghost use Rattle.sat_propagate.specs.Internal.Insertion.{IsSooner, IsRank, IsBest, IsUnseen};
 ghost use Rattle.sat_propagate.specs.Internal.Trail.{literals, IsTrail};
 ghost use Rattle.sat_propagate.specs.Internal.WatchLists.{watchers};
@@ -53,6 +53,7 @@ pub struct Propagator {
     pub clauses: ClauseTable,
     pub lists: WatchLists,
     pub decider: Decider,
+    used: Vec<usize>,
 }
 
 impl Propagator {
@@ -67,6 +68,7 @@ impl Propagator {
             clauses: ClauseTable::new(alloc),
             lists: WatchLists::new(alloc),
             decider: Decider::new(alloc),
+            used: Vec::new(alloc),
         }
     }
 
@@ -121,19 +123,52 @@ impl Propagator {
         ensures visited { IfOk result (λ r. r ≡ None → AreDone self.new.trail self.new.clauses.items self.new.lists falsified (length (watchers self.new.lists falsified))) }
         ensures conflict { IfOk result (λ r. (n : ℕ) → r ≡ Some n → IsConflict self.new.trail self.new.clauses.items n) }
     {
+        let packed = Packed::of(falsified)?;
+        self.visit_list(packed)
+    }
+
+    /// Visits the entries of a literal which became false, by its number.
+    fn visit_list(&mut self, falsified: Packed) -> Result<Option<usize>, AllocError>
+        requires right { IsPropagator self.old.trail self.old.processed self.old.clauses.items self.old.lists }
+        requires falsified { IsTrue (holds (literals self.old.trail.steps) (negated falsified)) }
+        requires made { falsified.var.0 < length self.old.trail.phases }
+        ensures right { IsPropagator self.new.trail self.new.processed self.new.clauses.items self.new.lists }
+        ensures grew { Grew self.old.trail self.old.clauses.items self.new.trail self.new.clauses.items }
+        ensures processed { self.new.processed ≡ self.old.processed }
+        ensures visited { IfOk result (λ r. r ≡ None → AreDone self.new.trail self.new.clauses.items self.new.lists falsified (length (watchers self.new.lists falsified))) }
+        ensures conflict { IfOk result (λ r. (n : ℕ) → r ≡ Some n → IsConflict self.new.trail self.new.clauses.items n) }
+    {
         let mut i = 0;
-        while i < self.lists.of(falsified).len() {
-            match self.visit_entry(falsified, i)? {
-                Visited::Next => i += 1,
-                Visited::Again => {}
+        while let Some(at) = self.next_entry(falsified, i) {
+            match self.visit_entry(falsified, at)? {
+                Visited::Next => i = at + 1,
+                Visited::Again => i = at,
                 Visited::False(conflict) => return Ok(Some(conflict)),
             }
         }
         Ok(None)
     }
 
+    /// The first entry of a literal, from a number on, whose blocker is not true.
+    fn next_entry(&self, falsified: Packed, from: usize) -> Option<usize>
+        requires { falsified.var.0 < length self.now.lists }
+        ensures later { IfSome result (λ at. from ≤ at) }
+        ensures inside { IfSome result (λ at. at < length (watchers self.now.lists falsified)) }
+        ensures done { IfSome result (λ at. AreDone self.now.trail self.now.clauses.items self.now.lists falsified from → AreDone self.now.trail self.now.clauses.items self.now.lists falsified at) }
+        ensures fits { IfSome result (λ at. at + 1 < 2 ^ 64) }
+        ensures none { IfNone result (AreDone self.now.trail self.now.clauses.items self.now.lists falsified from → AreDone self.now.trail self.now.clauses.items self.now.lists falsified (length (watchers self.now.lists falsified))) }
+    {
+        let entries = self.lists.of(falsified);
+        for at in from..entries.len() {
+            if !self.trail.affirms(entries[at].blocker) {
+                return Some(at);
+            }
+        }
+        None
+    }
+
     /// Visits one of the entries of a literal which became false.
-    fn visit_entry(&mut self, falsified: SatLit, i: usize) -> Result<Visited, AllocError>
+    fn visit_entry(&mut self, falsified: Packed, i: usize) -> Result<Visited, AllocError>
         requires right { IsPropagator self.old.trail self.old.processed self.old.clauses.items self.old.lists }
         requires falsified { IsTrue (holds (literals self.old.trail.steps) (negated falsified)) }
         requires made { falsified.var.0 < length self.old.trail.phases }
@@ -146,9 +181,6 @@ impl Propagator {
         ensures conflict { IfOk result (λ r. (n : ℕ) → r ≡ Visited.False n → IsConflict self.new.trail self.new.clauses.items n) }
     {
         let watch = self.lists.entry(falsified, i);
-        if self.trail.is_true(watch.blocker.literal()) {
-            return Ok(Visited::Next);
-        }
         let n = watch.clause as usize;
         match self.look_at(n, falsified) {
             Finding::Stale => {
@@ -174,46 +206,45 @@ impl Propagator {
     }
 
     /// Looks at a clause, one of whose watched literals became false.
-    fn look_at(&self, n: usize, falsified: SatLit) -> Finding
+    fn look_at(&self, n: usize, falsified: Packed) -> Finding
         requires { IsTrue (holds (literals self.now.trail.steps) (negated falsified)) }
         ensures { Finds (literals self.now.trail.steps) (slice_get self.now.clauses.items n) falsified result }
     {
-        let Some(packed) = self.clauses.other(n, falsified) else {
+        let Some(other) = self.clauses.other(n, falsified) else {
             return Finding::Stale;
         };
-        let other = packed.literal();
-        if self.trail.is_true(other) {
-            return Finding::Satisfied(packed);
+        if self.trail.affirms(other) {
+            return Finding::Satisfied(other);
         }
         match self.replacement(self.clauses.literals(n), falsified, other) {
             Some(literal) => Finding::Other(literal),
-            None if self.trail.is_false(other) => Finding::False,
-            None => Finding::Unit(other),
+            None if self.trail.denies(other) => Finding::False,
+            None => Finding::Unit(other.literal()),
         }
     }
 
     /// A literal that is not false, other than these two.
-    fn replacement(&self, among: &[Packed], a: SatLit, b: SatLit) -> Option<Packed>
+    fn replacement(&self, among: &[Packed], a: Packed, b: Packed) -> Option<Packed>
         ensures some { IfSome result (λ l. IsTrue (holds among.now l) × (l ≢ a) × (l ≢ b) × (holds (literals self.now.trail.steps) (negated l) ≡ false)) }
         ensures none { IfNone result ((l : SatLit) → IsTrue (holds among.now l) → l ≢ a → l ≢ b → IsTrue (holds (literals self.now.trail.steps) (negated l))) }
     {
         for packed in among {
-            if self.is_free(packed.literal(), a, b) {
+            if self.is_free(*packed, a, b) {
                 return Some(*packed);
             }
         }
         None
     }
 
-    fn is_free(&self, literal: SatLit, a: SatLit, b: SatLit) -> bool
+    fn is_free(&self, literal: Packed, a: Packed, b: Packed) -> bool
         ensures yes { IsTrue result → (literal ≢ a) × (literal ≢ b) × (holds (literals self.now.trail.steps) (negated literal) ≡ false) }
         ensures no { result ≡ false → literal ≢ a → literal ≢ b → IsTrue (holds (literals self.now.trail.steps) (negated literal)) }
     {
-        !self.trail.is_false(literal) && literal != a && literal != b
+        !self.trail.denies(literal) && !literal.is(a) && !literal.is(b)
     }
 
     /// Watches a literal in place of another one.
-    fn watch_other(&mut self, n: u32, from: SatLit, to: Packed) -> Result<(), AllocError>
+    fn watch_other(&mut self, n: u32, from: Packed, to: Packed) -> Result<(), AllocError>
         requires found { FindsOther (literals self.old.trail.steps) (slice_get self.old.clauses.items n) from to }
         requires made { to.var.0 < length self.old.lists }
         ensures moved { OnOk result (Moves self.old.clauses.items self.new.clauses.items self.old.lists self.new.lists n from to) }
@@ -237,6 +268,7 @@ impl Propagator {
         ensures full { IfOk result (λ r. r ≡ Ended.Full → AllTrue (assigned self.new.trail.phases) (texts self.new.clauses.items)) }
         ensures conflict { IfOk result (λ r. (n : ℕ) → r ≡ Ended.False n → IsConflict self.new.trail self.new.clauses.items n) }
     {
+        self.detach_used();
         loop {
             if let Some(conflict) = self.propagate()? {
                 return Ok(Ended::False(conflict));
@@ -267,7 +299,7 @@ impl Propagator {
         }
     }
 
-    /// Makes a variable true or false, by its last value.
+    /// Makes a variable true or false, as it is wished or was last.
     pub fn decide(&mut self, var: Var) -> Result<(), AllocError>
         requires right { IsPropagator self.old.trail self.old.processed self.old.clauses.items self.old.lists }
         requires whole { self.old.processed ≡ length self.old.trail.steps }
@@ -278,19 +310,64 @@ impl Propagator {
         ensures made { length self.new.trail.phases ≡ length self.old.trail.phases }
         ensures longer { OnOk result (length self.new.trail.steps ≡ length self.old.trail.steps + 1) }
     {
-        let positive = self.trail.phase(var);
+        let positive = self.decider.sign(var);
         self.trail.decide(SatLit { var, positive })?;
         Ok(())
     }
 
-    /// Variables that took part in a conflict are proposed sooner.
-    pub fn bump(&mut self, variables: &[Var])
+    /// Variables that took part in a conflict are proposed sooner. The clauses from which something was learned are
+    /// watched no more if the next clause that is inserted is a part of them; where there is no memory they stay watched.
+    pub fn bump(&mut self, variables: &[Var], used: &[usize])
         ensures trail { self.new.trail ≡ self.old.trail }
         ensures processed { self.new.processed ≡ self.old.processed }
         ensures clauses { self.new.clauses.items ≡ self.old.clauses.items }
         ensures lists { self.new.lists ≡ self.old.lists }
     {
         self.decider.advance(variables);
+        self.used.clear();
+        let _kept = self.used.extend_from_slice(used);
+    }
+
+    /// Where variables are decided first, they take these values.
+    pub fn wish(&mut self, values: &[bool])
+        ensures trail { self.new.trail ≡ self.old.trail }
+        ensures processed { self.new.processed ≡ self.old.processed }
+        ensures clauses { self.new.clauses.items ≡ self.old.clauses.items }
+        ensures lists { self.new.lists ≡ self.old.lists }
+    {
+        self.decider.wish_all(values);
+    }
+
+    /// Of the clauses from which something was learned those are watched no more that the last clause is a part of.
+    fn detach_used(&mut self)
+        requires right { IsPropagator self.old.trail self.old.processed self.old.clauses.items self.old.lists }
+        ensures right { IsPropagator self.new.trail self.new.processed self.new.clauses.items self.new.lists }
+        ensures trail { self.new.trail ≡ self.old.trail }
+        ensures texts { texts self.new.clauses.items ≡ texts self.old.clauses.items }
+    {
+        for _ in 0..self.used.len() {
+            if let Some(n) = self.used.pop() {
+                self.detach_covered(n);
+            }
+        }
+    }
+
+    /// A clause is watched no more where the last one is a part of it, and another one.
+    fn detach_covered(&mut self, n: usize)
+        requires right { IsPropagator self.old.trail self.old.processed self.old.clauses.items self.old.lists }
+        ensures right { IsPropagator self.new.trail self.new.processed self.new.clauses.items self.new.lists }
+        ensures trail { self.new.trail ≡ self.old.trail }
+        ensures texts { texts self.new.clauses.items ≡ texts self.old.clauses.items }
+    {
+        let count = self.clauses.len();
+        if n >= count {
+            return;
+        }
+        let part = self.clauses.literals(count - 1);
+        let clause = self.clauses.literals(n);
+        if is_proper_part(part, clause) {
+            self.clauses.detach(n);
+        }
     }
 
     /// Goes back to a number of decisions, where there are more.
@@ -423,7 +500,97 @@ impl Propagator {
         Ok(())
     }
 
+    /// Inserts a clause with two literals to watch, wherever the second of which is false all others but the first are.
     fn insert_watched(
+        &mut self,
+        clause: &[SatLit],
+        first: SatLit,
+        second: SatLit,
+    ) -> Result<(), AllocError>
+        requires right { IsPropagator self.old.trail self.old.processed self.old.clauses.items self.old.lists }
+        requires over { IsOver (length self.old.trail.phases) clause.now }
+        requires first { IsTrue (holds clause.now first) }
+        requires second { IsTrue (holds clause.now second) }
+        requires apart { first ≢ second }
+        requires sooner { IsSooner (literals self.old.trail.steps) second first }
+        requires rest { (m : SatLit) → IsTrue (holds clause.now m) → m ≢ first → IsSooner (literals self.old.trail.steps) m second }
+        ensures right { IsPropagator self.new.trail self.new.processed self.new.clauses.items self.new.lists }
+        ensures made { length self.new.trail.phases ≡ length self.old.trail.phases }
+        ensures inserted { OnOk result (texts self.new.clauses.items ≡ texts self.old.clauses.items ++ clause.now ∷ []) }
+        ensures err { OnErr result (self.new.clauses.items ≡ self.old.clauses.items) }
+    {
+        if self.goes_back_to_unit(first, second) {
+            return self.push_forced(clause, first, second);
+        }
+        self.push_watched(clause, first, second)
+    }
+
+    /// Goes back to the level of a false literal's place. Whether it was false, and the first literal has no value then.
+    fn goes_back_to_unit(&mut self, first: SatLit, second: SatLit) -> bool
+        requires right { IsPropagator self.old.trail self.old.processed self.old.clauses.items self.old.lists }
+        ensures right { IsPropagator self.new.trail self.new.processed self.new.clauses.items self.new.lists }
+        ensures made { length self.new.trail.phases ≡ length self.old.trail.phases }
+        ensures clauses { self.new.clauses.items ≡ self.old.clauses.items }
+        ensures beginning { (n : ℕ) × (literals self.new.trail.steps ≡ take n (literals self.old.trail.steps)) }
+        ensures open { IsTrue result → mentions_variable (literals self.new.trail.steps) first.var ≡ false }
+        ensures denied { IsTrue result → IsTrue (holds (literals self.new.trail.steps) (negated second)) }
+        ensures unseen { IsTrue result → (s : ℕ) → Contains self.new.trail.starts s → holds (take s (literals self.new.trail.steps)) (negated second) ≡ false }
+    {
+        if !self.trail.is_false(second) {
+            return false;
+        }
+        let place = self.trail.place(second.var);
+        let level = self.level_of(place);
+        self.back_to(level);
+        self.trail.is_open(first.var)
+    }
+
+    /// Appends a clause all of whose literals but the first are false, and makes that one true.
+    fn push_forced(
+        &mut self,
+        clause: &[SatLit],
+        first: SatLit,
+        second: SatLit,
+    ) -> Result<(), AllocError>
+        requires right { IsPropagator self.old.trail self.old.processed self.old.clauses.items self.old.lists }
+        requires over { IsOver (length self.old.trail.phases) clause.now }
+        requires second { IsTrue (holds clause.now second) }
+        requires apart { first ≢ second }
+        requires open { mentions_variable (literals self.old.trail.steps) first.var ≡ false }
+        requires unit { IsUnitClause (literals self.old.trail.steps) clause.now first }
+        requires unseen { (s : ℕ) → Contains self.old.trail.starts s → holds (take s (literals self.old.trail.steps)) (negated second) ≡ false }
+        ensures right { IsPropagator self.new.trail self.new.processed self.new.clauses.items self.new.lists }
+        ensures made { length self.new.trail.phases ≡ length self.old.trail.phases }
+        ensures inserted { OnOk result (texts self.new.clauses.items ≡ texts self.old.clauses.items ++ clause.now ∷ []) }
+        ensures err { OnErr result (self.new.clauses.items ≡ self.old.clauses.items) }
+    {
+        let watched = Packed::of(first)?;
+        let other = Packed::of(second)?;
+        let n = narrow(self.clauses.len())?;
+        self.lists.push(
+            first,
+            Watch {
+                clause: n,
+                blocker: other,
+            },
+        )?;
+        self.lists.push(
+            second,
+            Watch {
+                clause: n,
+                blocker: watched,
+            },
+        )?;
+        self.clauses.push(clause, watched, other)?;
+        if let Err(refused) = self.trail.assign(first, Some(n as usize)) {
+            self.clauses.pop();
+            return Err(refused);
+        }
+        Ok(())
+    }
+
+    /// Appends a clause with two literals to watch, going back as far as it needs.
+    fn push_watched(
         &mut self,
         clause: &[SatLit],
         first: SatLit,
@@ -512,6 +679,40 @@ impl Propagator {
 /// Proposes the variables that have their values from a place on.
 fn propose_from(decider: &mut Decider, trail: &Trail, start: usize) {
     for place in start..trail.len() {
-        decider.propose(trail.step(place).literal.var);
+        let literal = trail.step(place).literal;
+        decider.wish(literal.var, literal.positive);
+        decider.propose(literal.var);
     }
+}
+
+/// Whether the literals of a clause are among those of another one that has more.
+fn is_proper_part(part: &[Packed], clause: &[Packed]) -> bool
+    ensures among { IsTrue result → IsClausePart part.now clause.now }
+    ensures more { IsTrue result → (l : SatLit) × IsTrue (holds clause.now l) × (holds part.now l ≡ false) }
+{
+    are_among(part, clause) && !are_among(clause, part)
+}
+
+/// Whether the literals of a clause are among those of another one.
+fn are_among(some: &[Packed], clause: &[Packed]) -> bool
+    ensures among { IsTrue result → IsClausePart some.now clause.now }
+    ensures more { result ≡ false → (l : SatLit) × IsTrue (holds some.now l) × (holds clause.now l ≡ false) }
+{
+    for literal in some {
+        if !is_among(*literal, clause) {
+            return false;
+        }
+    }
+    true
+}
+
+fn is_among(literal: Packed, clause: &[Packed]) -> bool
+    ensures { result ≡ holds clause.now literal }
+{
+    for other in clause {
+        if literal.is(*other) {
+            return true;
+        }
+    }
+    false
 }

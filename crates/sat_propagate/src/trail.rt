@@ -3,6 +3,8 @@ ghost use Rattle.std.specs.Prelude.{◌≡◌, ◌≢◌, ◌<◌, ◌↔◌, []
 ghost use Rattle.sat_base.specs.declared.literal.Var.{Var};
 ghost use Rattle.sat_base.specs.Literal.{holds, mentions_variable, negated};
 
+use crate::packed::Packed;
+use crate::values::Values;
 use sat_base::{SatLit, Var};
 use std::alloc::{AllocError, Global};
 use std::marker::Model;
@@ -30,23 +32,25 @@ impl Cell {
     };
 }
 
-/// The trail: the literals that are true, and the places of the decisions.
+/// The trail: the literals that are true, and the places of the decisions. Propagation reads which literals are true in a
+/// table of bytes.
 #[derive(Debug, Drop)]
 pub struct Trail {
     steps: Vec<Step>,
     starts: Vec<usize>,
     cells: Vec<Cell>,
+    values: Values,
 }
 
 impl Model for Trail {
     ghost use Rattle.std.specs.Prelude.{map};
-    ghost use Rattle.sat_propagate.specs.Internal.Trail.{TrailState, IsTrailInside};
+    ghost use Rattle.sat_propagate.specs.Internal.Trail.{TrailState, IsTrailWhole};
 
     ghost Value = { TrailState };
 
     ghost view = { λ t. record { steps = t.steps.items; starts = t.starts.items; phases = map (λ cell. cell.positive) t.cells.items } };
 
-    ghost invariant = { λ t. IsTrailInside t.cells.items (record { steps = t.steps.items; starts = t.starts.items; phases = map (λ cell. cell.positive) t.cells.items }) };
+    ghost invariant = { λ t. IsTrailWhole t.values t.cells.items (record { steps = t.steps.items; starts = t.starts.items; phases = map (λ cell. cell.positive) t.cells.items }) };
 }
 
 impl Trail {
@@ -60,6 +64,7 @@ impl Trail {
             steps: Vec::new(alloc),
             starts: Vec::new(alloc),
             cells: Vec::new(alloc),
+            values: Values::new(alloc),
         }
     }
 
@@ -68,7 +73,9 @@ impl Trail {
         ensures ok { OnOk result (self.new ≡ record self.old { phases = self.old.phases ++ false ∷ [] }) }
         ensures err { OnErr result (self.new ≡ self.old) }
     {
-        self.cells.push(Cell::OPEN)?;
+        self.cells.reserve(1)?;
+        self.values.add_variable()?;
+        self.cells.push_reserved(Cell::OPEN);
         Ok(())
     }
 
@@ -126,6 +133,20 @@ impl Trail {
         self.is_true(literal.negated())
     }
 
+    /// Whether a literal is true, by the table of bytes.
+    pub fn affirms(&self, literal: Packed) -> bool
+        ensures { result ≡ holds (literals self.now.steps) literal }
+    {
+        self.values.get(literal)
+    }
+
+    /// Whether a literal is false, by the table of bytes.
+    pub fn denies(&self, literal: Packed) -> bool
+        ensures { result ≡ holds (literals self.now.steps) (negated literal) }
+    {
+        self.values.get(literal.negated())
+    }
+
     pub fn is_open(&self, var: Var) -> bool
         ensures { IsTrue result ↔ (mentions_variable (literals self.now.steps) var ≡ false) }
     {
@@ -162,6 +183,14 @@ impl Trail {
         self.cells[var.0].place
     }
 
+    /// The place of the literal on a variable, where it has a value.
+    pub fn find(&self, var: Var) -> Option<usize> {
+        match self.cells.get(var.0) {
+            Some(cell) if cell.assigned => Some(cell.place),
+            _ => None,
+        }
+    }
+
     /// The value of a variable, or the last one that it had.
     pub fn phase(&self, var: Var) -> bool
         requires { var.0 < length self.now.phases }
@@ -186,6 +215,7 @@ impl Trail {
             positive: literal.positive,
             place,
         };
+        self.values.set(literal, true);
         Ok(())
     }
 
@@ -210,6 +240,7 @@ impl Trail {
             positive: literal.positive,
             place,
         };
+        self.values.set(literal, true);
         Ok(())
     }
 
@@ -225,6 +256,7 @@ impl Trail {
             let step = self.steps[i];
             let cell = &mut self.cells[step.literal.var.0];
             cell.assigned = false;
+            self.values.set(step.literal, false);
         }
         self.steps.truncate(start);
         self.starts.truncate(levels);

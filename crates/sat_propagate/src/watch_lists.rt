@@ -71,10 +71,11 @@ impl WatchLists {
     }
 
     /// The entries of a literal.
-    pub fn of(&self, literal: SatLit) -> &[Watch]
+    pub fn of(&self, literal: Packed) -> &[Watch]
         requires { literal.var.0 < length self.now }
         ensures { result.now ≡ watchers self.now literal }
     {
+        let literal = literal.literal();
         let watchers = &self.entries[literal.var.0];
         if literal.positive {
             watchers.positive.as_slice()
@@ -84,11 +85,12 @@ impl WatchLists {
     }
 
     /// One of the entries of a literal.
-    pub fn entry(&self, literal: SatLit, at: usize) -> Watch
+    pub fn entry(&self, literal: Packed, at: usize) -> Watch
         requires made { literal.var.0 < length self.now }
         requires there { at < length (watchers self.now literal) }
         ensures { slice_get (watchers self.now literal) at ≡ Some result }
     {
+        let literal = literal.literal();
         let watchers = &self.entries[literal.var.0];
         if literal.positive {
             watchers.positive[at]
@@ -113,12 +115,13 @@ impl WatchLists {
     }
 
     /// Puts an entry in the place of another one.
-    pub fn set(&mut self, literal: SatLit, at: usize, watch: Watch)
+    pub fn set(&mut self, literal: Packed, at: usize, watch: Watch)
         requires made { literal.var.0 < length self.old }
         requires there { at < length (watchers self.old literal) }
         ensures entries { (m : SatLit) → watchers self.new m ≡ (if same_literal literal m then slice_set (watchers self.old m) at watch else watchers self.old m) }
         ensures made { length self.new ≡ length self.old }
     {
+        let literal = literal.literal();
         let watchers = &mut self.entries[literal.var.0];
         if literal.positive {
             watchers.positive[at] = watch;
@@ -128,13 +131,14 @@ impl WatchLists {
     }
 
     /// Takes an entry out of the list of a literal. The last one takes its place.
-    pub fn remove(&mut self, literal: SatLit, at: usize) -> Watch
+    pub fn remove(&mut self, literal: Packed, at: usize) -> Watch
         requires made { literal.var.0 < length self.old }
         requires there { at < length (watchers self.old literal) }
         ensures entry { slice_get (watchers self.old literal) at ≡ Some result }
         ensures entries { (m : SatLit) → watchers self.new m ≡ (if same_literal literal m then swap_remove (watchers self.old m) at result else watchers self.old m) }
         ensures made { length self.new ≡ length self.old }
     {
+        let literal = literal.literal();
         let watchers = &mut self.entries[literal.var.0];
         if literal.positive {
             watchers.positive.swap_remove(at)

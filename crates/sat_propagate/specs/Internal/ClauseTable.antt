@@ -4,7 +4,7 @@ use Rattle.std.specs.List.{All}
 use Rattle.sat_base.specs.declared.literal.SatLit.{SatLit}
 use Rattle.sat_propagate.specs.declared.clause_table.Head.{Head}
 
--- a clause, with its two watched literals, or twice its only one
+-- a clause, with its two watched literals, or twice one of it where it watches none
 pub record Watched : Type 0 where
   pub clause : List SatLit
   pub first : SatLit

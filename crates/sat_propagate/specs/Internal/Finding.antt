@@ -21,6 +21,7 @@ pub record FindsOther (literals : List SatLit) (found : Option Watched) (falsifi
   pub watched : Watched
   pub there : found ≡ Some watched
   pub other : SatLit
+  pub distinct : watched.first ≢ watched.second
   pub paired : IsPair watched falsified other
   pub member : IsTrue (holds watched.clause l)
   pub new : l ≢ falsified
@@ -44,7 +45,7 @@ pub record FindsFalse (literals : List SatLit) (found : Option Watched) (falsifi
   pub rest : AreOthersFalse literals watched.clause falsified other
 
 abbrev pub Finds : List SatLit → Option Watched → SatLit → Finding → Type 0
-Finds literals found falsified Stale = (watched : Watched) → found ≡ Some watched → (watched.first ≢ falsified) × (watched.second ≢ falsified)
+Finds literals found falsified Stale = (watched : Watched) → found ≡ Some watched → watched.first ≢ watched.second → (watched.first ≢ falsified) × (watched.second ≢ falsified)
 Finds literals found falsified (Satisfied l) = FindsTrue literals found falsified l
 Finds literals found falsified (Other l) = FindsOther literals found falsified l
 Finds literals found falsified (OnlyOpen l) = FindsUnit literals found falsified l

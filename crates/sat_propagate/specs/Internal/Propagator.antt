@@ -4,7 +4,7 @@ use Rattle.std.specs.List.{All, Contains}
 use Rattle.sat_base.specs.declared.literal.SatLit.{SatLit}
 use Rattle.sat_base.specs.Literal.{same_literal, holds, IsOver}
 use Rattle.sat_log.specs.Propagation.{IsUnitClause, IsFalseIn}
-use Rattle.sat_laws.specs.Internal.Complete.{satisfies}
+use Rattle.sat_laws.specs.Internal.Complete.{satisfies, IsClausePart}
 use Rattle.sat_laws.specs.Internal.Watching.{IsKept}
 use Rattle.sat_propagate.specs.Internal.Trail.{TrailState, literals}
 use Rattle.sat_propagate.specs.Internal.WatchLists.{WatchPair, NamesWatches, watchers}
@@ -25,14 +25,21 @@ IsPair watched l other = ((watched.first ≡ l) × (watched.second ≡ other)) �
 abbrev pub Watches : Watched → SatLit → Type 0
 Watches watched l = (watched.first ≡ l) ⊎ (watched.second ≡ l)
 
--- the facts that hold of a propagator between any two calls
+-- a clause of the list is kept, and its literals are among those of this clause
+pub record IsCovered (starts : List ℕ) (trail : List SatLit) (processed : ℕ) (clauses : List Watched) (clause : List SatLit) : Type 0 where
+  pub at : ℕ
+  pub part : Watched
+  pub there : slice_get clauses at ≡ Some part
+  pub among : IsClausePart part.clause clause
+  pub kept : IsKept starts trail processed part.clause part.first part.second
+
+-- the facts that hold of a propagator between any two calls. A clause watches two literals, or one, named twice, which no list has
 pub record IsPropagator (trail : TrailState) (processed : ℕ) (clauses : List Watched) (lists : List WatchPair) : Type 0 where
   pub reasoned : (i : ℕ) (step : Step) → slice_get trail.steps i ≡ Some step → IsReasoned clauses trail i step
   pub started : All (λ s. s ≤ processed) trail.starts
   pub processed_within : processed ≤ length trail.steps
-  pub kept : (n : ℕ) (watched : Watched) → slice_get clauses n ≡ Some watched → IsKept trail.starts (literals trail.steps) processed watched.clause watched.first watched.second
+  pub covered : (n : ℕ) (watched : Watched) → slice_get clauses n ≡ Some watched → IsCovered trail.starts (literals trail.steps) processed clauses watched.clause
   pub members : (n : ℕ) (watched : Watched) → slice_get clauses n ≡ Some watched → IsTrue (holds watched.clause watched.first) × IsTrue (holds watched.clause watched.second)
-  pub alone : (n : ℕ) (watched : Watched) (l : SatLit) → slice_get clauses n ≡ Some watched → watched.first ≡ watched.second → IsTrue (holds watched.clause l) → l ≡ watched.first
   pub listed : (n : ℕ) (watched : Watched) (l : SatLit) → slice_get clauses n ≡ Some watched → watched.first ≢ watched.second → Watches watched l → NamesWatches (watchers lists l) n watched.clause
   pub over : (n : ℕ) (watched : Watched) → slice_get clauses n ≡ Some watched → IsOver (length trail.phases) watched.clause
   pub lists_made : length trail.phases ≤ length lists
@@ -73,6 +80,18 @@ pub record Rewatched (before after : List Watched) (n : ℕ) (from to other : Sa
   pub text : new.clause ≡ old.clause
   pub pair_before : IsPair old from other
   pub pair_after : IsPair new to other
+  pub others : (k : ℕ) → k ≢ n → slice_get after k ≡ slice_get before k
+  pub texts_same : texts after ≡ texts before
+
+-- one clause watches its first literal alone, and the other clauses are as they were
+pub record Detaches (before after : List Watched) (n : ℕ) : Type 0 where
+  pub old : Watched
+  pub new : Watched
+  pub was : slice_get before n ≡ Some old
+  pub is : slice_get after n ≡ Some new
+  pub text : new.clause ≡ old.clause
+  pub first_same : new.first ≡ old.first
+  pub second_first : new.second ≡ old.first
   pub others : (k : ℕ) → k ≢ n → slice_get after k ≡ slice_get before k
   pub texts_same : texts after ≡ texts before
 

@@ -93,8 +93,8 @@ name_of-requires c =
     let inside = slice_get_within c.args.propagator.now.clauses.items c.in-Some.reason reason.0 reason.1 in
     omega (arith, c.requires.named)
 
-pub loop-place-preserved-in-Continue-branch-4 : goal.loop-place-preserved-in-Continue-branch-4
-loop-place-preserved-in-Continue-branch-4 c =
+pub loop-place-preserved-in-Continue-branch-6 : goal.loop-place-preserved-in-Continue-branch-6
+loop-place-preserved-in-Continue-branch-6 c =
     let trail = c.args.propagator.now.trail in
     let clauses = c.args.propagator.now.clauses.items in
     let why = c.in-Some.ensures.some in

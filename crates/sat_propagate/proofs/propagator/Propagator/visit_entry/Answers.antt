@@ -11,14 +11,6 @@ use Rattle.sat_propagate.proofs.PropagatorLaws.{right_removed, done_removed, rig
 use Rattle.sat_propagate.proofs.EntryLaws.{var_made, other_in, length_removed, length_written, next_written, found_unit, next_assigned, right_moved}
 use Rattle.sat_propagate.proofs.propagator.Propagator.visit_entry.Goals as goal
 
-pub returns-then-is_true-clause-next : goal.returns-then-is_true-clause-next
-returns-then-is_true-clause-next c = λ e. (
-  refl,
-  λ done. done_more c.args.self.now.trail c.args.self.now.clauses.items c.args.self.now.lists c.args.falsified c.args.i c.entry-watch.result c.entry-watch.ensures
-      (done_by_blocker c.args.self.now.trail c.args.self.now.clauses.items c.args.falsified c.entry-watch.result
-      (ap (holds (literals c.args.self.now.trail.steps)) (sym c.literal.ensures) ∙ sym c.is_true.ensures ∙ c.if-is_true.true)) done,
-)
-
 pub watch_other-requires-clause-made : goal.watch_other-requires-clause-made
 watch_other-requires-clause-made c =
     let found = c.in-Other.ensures in
@@ -41,9 +33,9 @@ pub returns-in-Stale-clause-right : goal.returns-in-Stale-clause-right
 returns-in-Stale-clause-right c =
     right_removed c.args.self.now.trail c.args.self.now.processed c.args.self.now.clauses.items c.args.self.now.lists c.remove.new.self c.args.falsified c.args.i c.remove.result
     c.requires.there c.remove.ensures.entry
-    (λ watched at watches.
+    (λ watched at distinct watches.
     let same : c.remove.result ≡ c.entry-watch.result = same_Some _ _ (sym c.remove.ensures.entry ∙ c.entry-watch.ensures) in
-    let apart = c.in-Stale.ensures watched (ap (λ (w : Watch). slice_get c.args.self.now.clauses.items w.clause) (sym same) ∙ at) in
+    let apart = c.in-Stale.ensures watched (ap (λ (w : Watch). slice_get c.args.self.now.clauses.items w.clause) (sym same) ∙ at) distinct in
     elim watches [ inl first ↦ apart.0 first | inr second ↦ apart.1 second ])
     c.remove.ensures.entries c.remove.ensures.made c.requires.right
 

@@ -1,0 +1,182 @@
+//! Which literals of a clause follow from its others.
+
+use crate::marks::Marks;
+use sat_base::Var;
+use sat_propagate::{Packed, Propagator};
+use std::alloc::{AllocError, Global};
+
+/// What is known of a variable's literal: nothing, that it follows from marked ones, or that it doesn't.
+#[derive(Clone, Copy, Debug, PartialEq, Eq)]
+enum Known {
+    Nothing,
+    Follows,
+    Fails,
+}
+
+/// A variable whose reason is read, and how many of the reason's literals were read.
+#[derive(Clone, Copy, Debug)]
+struct Visit {
+    var: Var,
+    read: usize,
+}
+
+/// What the reading of a reason found: that its variable is known now, or another one that has to be known first.
+enum Found {
+    Known(Known),
+    Needed { visit: Visit, var: Var },
+}
+
+/// What is known of each variable while a clause is made shorter, and the places of the literals that follow. Its lists
+/// are kept from one clause to the next. Nothing rests on what they say.
+#[derive(Debug, Drop)]
+pub struct Spares {
+    known: Vec<Known>,
+    judged: Vec<Var>,
+    open: Vec<Visit>,
+    places: Vec<usize>,
+}
+
+impl Spares {
+    pub fn new(alloc: Global) -> Self {
+        Spares {
+            known: Vec::new(alloc),
+            judged: Vec::new(alloc),
+            open: Vec::new(alloc),
+            places: Vec::new(alloc),
+        }
+    }
+
+    /// Finds the literals before a place that follow, step by step, from marked ones before them: those of the marked
+    /// variables that were met, and those that these need.
+    pub fn find(
+        &mut self,
+        propagator: &Propagator,
+        marks: &Marks,
+        start: usize,
+    ) -> Result<(), AllocError> {
+        self.restart(propagator.trail.variables())?;
+        for var in marks.met() {
+            let is_before = propagator
+                .trail
+                .find(*var)
+                .is_some_and(|place| place < start);
+            if is_before && marks.contains(*var) {
+                self.judge(propagator, marks, *var)?;
+            }
+        }
+        self.places.sort_unstable();
+        Ok(())
+    }
+
+    /// The places of the literals that follow, in order.
+    pub fn places(&self) -> &[usize] {
+        self.places.as_slice()
+    }
+
+    /// Forgets what is known.
+    fn restart(&mut self, variables: usize) -> Result<(), AllocError> {
+        for var in self.judged.as_slice() {
+            if let Some(slot) = self.known.get_mut(var.0) {
+                *slot = Known::Nothing;
+            }
+        }
+        self.judged.clear();
+        self.places.clear();
+        if self.known.len() < variables {
+            self.known.resize(variables, Known::Nothing)?;
+        }
+        Ok(())
+    }
+
+    /// Finds out whether a variable's literal follows, after the others that this needs.
+    fn judge(
+        &mut self,
+        propagator: &Propagator,
+        marks: &Marks,
+        var: Var,
+    ) -> Result<(), AllocError> {
+        self.open.clear();
+        self.open.push(Visit { var, read: 0 })?;
+        for _ in 0..u64::MAX {
+            let Some(visit) = self.open.pop() else {
+                break;
+            };
+            match self.read_on(propagator, marks, visit) {
+                Found::Known(Known::Follows) => self.note_follows(propagator, visit.var)?,
+                Found::Known(_) => self.note_fails(visit.var)?,
+                Found::Needed { visit, var } => {
+                    self.open.push(visit)?;
+                    self.open.push(Visit { var, read: 0 })?;
+                }
+            }
+        }
+        Ok(())
+    }
+
+    /// Reads a variable's reason up to the first literal that decides what is known of it, or of which nothing is known.
+    fn read_on(&self, propagator: &Propagator, marks: &Marks, visit: Visit) -> Found {
+        let Some(reason) = reason_of(propagator, visit.var) else {
+            return Found::Known(Known::Fails);
+        };
+        for i in visit.read..reason.len() {
+            let var = reason[i].literal().var;
+            if var != visit.var && !marks.contains(var) {
+                match self.known(var) {
+                    Known::Follows => {}
+                    Known::Fails => return Found::Known(Known::Fails),
+                    Known::Nothing => {
+                        let visit = Visit {
+                            var: visit.var,
+                            read: i,
+                        };
+                        return Found::Needed { visit, var };
+                    }
+                }
+            }
+        }
+        Found::Known(Known::Follows)
+    }
+
+    fn known(&self, var: Var) -> Known {
+        self.known.get(var.0).copied().unwrap_or(Known::Fails)
+    }
+
+    fn note(&mut self, var: Var, known: Known) -> Result<(), AllocError> {
+        self.judged.push(var)?;
+        if let Some(slot) = self.known.get_mut(var.0) {
+            *slot = known;
+        }
+        Ok(())
+    }
+
+    fn note_follows(&mut self, propagator: &Propagator, var: Var) -> Result<(), AllocError> {
+        if let Some(place) = propagator.trail.find(var) {
+            self.places.push(place)?;
+        }
+        self.note(var, Known::Follows)
+    }
+
+    /// A variable's literal doesn't follow, and so do those whose reasons need it.
+    fn note_fails(&mut self, var: Var) -> Result<(), AllocError> {
+        self.note(var, Known::Fails)?;
+        for _ in 0..self.open.len() {
+            if let Some(needing) = self.open.pop() {
+                self.note(needing.var, Known::Fails)?;
+            }
+        }
+        Ok(())
+    }
+}
+
+/// The literals of the clause that made a variable's literal true, if one did.
+fn reason_of(propagator: &Propagator, var: Var) -> Option<&[Packed]> {
+    let place = propagator.trail.find(var)?;
+    if place >= propagator.trail.len() {
+        return None;
+    }
+    let reason = propagator.trail.step(place).reason?;
+    if reason >= propagator.clauses.len() {
+        return None;
+    }
+    Some(propagator.literals(reason))
+}
