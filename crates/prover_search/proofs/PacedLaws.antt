@@ -2,7 +2,7 @@
 use Rattle.std.specs.Prelude.{◌≡◌, ◌≤◌, ◌+◌, ◌*◌, ◌==◌, ◌++◌, ◌&&◌, ℕ, zero, suc, Bool, true, false, not, List, [], ◌∷◌, map, filter, Option, Some, None, refl, if◌then◌else◌}
 use Rattle.std.specs.List.{list_any, list_all, flat_map}
 use Rattle.std.proofs.Common.{ap, subst, arith}
-use Rattle.stt_core.specs.SimpleType.{SimpleType, base, arrow, formula, same_type, target}
+use Rattle.stt_core.specs.SimpleType.{SimpleType, base, arrow, formula, target}
 use Rattle.stt_core.specs.Lambda.{falsity, implication, all, equality, Lambda, constant, app, imp, eq, every}
 use Rattle.stt_core.specs.SameTerm.{same_term}
 use Rattle.stt_core.specs.Typing.{type_of}

@@ -1,14 +1,14 @@
-use Rattle.std.proofs.Common.{◌≡◌, ◌≤◌, ◌∷◌, [], suc, false, List, length, slice_get, Some, sym, ap, subst, ◌∙◌}
+use Rattle.std.proofs.Common.{◌≡◌, ◌≤◌, suc, false, List, length, slice_get, sym, ap, subst, ◌∙◌}
 use Rattle.stt_core.specs.Lambda.{every}
 use Rattle.stt_core.proofs.ListLaws.{slice_get-end}
-use Rattle.tableau_calculus.specs.Literals.{Literal, minus}
+use Rattle.tableau_calculus.specs.Literals.{Literal}
 use Rattle.tableau_calculus.specs.Witnesses.{Row}
 use Rattle.literal_map.specs.Atoms.{bank_literal}
 use Rattle.prover_growth.specs.Internal.Denials.{with_row}
 use Rattle.prover_growth.proofs.DenialLaws.{rows-length, row-new}
 use Rattle.prover_growth.proofs.WitnessedLaws.{came, came-not}
 use Rattle.prover_state.specs.declared.tables.Tables.{Tables}
-use Rattle.prover_state.specs.Internal.Standing.{rows_in, setting_by, the_state}
+use Rattle.prover_state.specs.Internal.Standing.{rows_in}
 use Rattle.prover_search.specs.declared.shape.Shape.TheVariants.{Quantified}
 use Rattle.prover_search.proofs.DevelopLaws.{develops-then}
 use Rattle.prover_search.proofs.MadeStays.{number-wider, literal-wider}
