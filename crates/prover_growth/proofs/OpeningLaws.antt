@@ -2,10 +2,10 @@
 use Rattle.std.specs.Prelude.{◌≡◌, ◌||◌, ◌+◌, ℕ, Bool, true, false, List, [], drop, slice_get, Some, refl, if◌then◌else◌}
 use Rattle.std.specs.List.{list_any}
 use Rattle.std.proofs.Common.{sym, ap, subst, ◌∙◌, append-nil}
-use Rattle.stt_core.specs.SimpleType.{SimpleType, arrow, same_type}
+use Rattle.stt_core.specs.SimpleType.{SimpleType, arrow}
 use Rattle.stt_core.proofs.ListLaws.{drop_got}
 use Rattle.search_spec.specs.Partial.{blank_partial}
-use Rattle.search_spec.specs.State.{State, Setting, Sketch}
+use Rattle.search_spec.specs.State.{State, Setting}
 use Rattle.search_spec.specs.Terms.{with_terms, with_opening}
 use Rattle.search_spec.specs.Offers.{is_prepared, early_terms}
 use Rattle.search_spec.specs.Preparing.{with_beginning, with_preparation}

@@ -1,9 +1,8 @@
-use Rattle.std.proofs.Common.{◌≡◌, List, length, get_or, slice_get, Some, refl, sym, ap, subst, ◌∙◌, arith}
+use Rattle.std.proofs.Common.{◌≡◌, List, length, get_or, slice_get, Some, refl, sym, ap, ◌∙◌, arith}
 use Rattle.stt_core.specs.View.{the_type}
 use Rattle.tableau_calculus.specs.Witnesses.{Row}
 use Rattle.term_bank.specs.Terms.{term_at}
-use Rattle.witness_names.specs.Rows.{row_of, rows_of}
-use Rattle.witness_names.proofs.StayLaws.{rows_same}
+use Rattle.witness_names.specs.Rows.{row_of}
 use Rattle.search_spec.specs.Offers.{witness_terms}
 use Rattle.search_spec.specs.Terms.{with_terms}
 use Rattle.prover_state.specs.declared.command.Delays.{Delays}

@@ -1,7 +1,6 @@
 use Rattle.std.proofs.Common.{[], ◌∷◌, refl, sym, ap, ◌∙◌}
 use Rattle.stt_core.specs.SimpleType.{SimpleType}
 use Rattle.stt_core.specs.Lambda.{witness, constant}
-use Rattle.stt_core.specs.View.{the_type}
 use Rattle.normal_forms.specs.Normal.{eta}
 use Rattle.search_spec.specs.Offers.{takes_witness}
 use Rattle.search_spec.specs.Terms.{with_terms}

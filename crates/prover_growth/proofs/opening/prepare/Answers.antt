@@ -1,14 +1,9 @@
 use Rattle.std.proofs.Common.{◌≡◌, true, length, refl, sym, ap₂, subst, ◌∙◌}
 use Rattle.stt_core.specs.SimpleType.{is_declared}
 use Rattle.stt_core.specs.View.{the_type}
-use Rattle.mode_file.specs.declared.Mode.{Mode}
 use Rattle.search_spec.specs.State.{State, Setting}
 use Rattle.search_spec.specs.Preparing.{with_beginning}
-use Rattle.prover_state.specs.declared.command.Delays.{Delays}
-use Rattle.prover_state.specs.declared.tables.Basis.{Basis}
-use Rattle.prover_state.specs.declared.tables.Tables.{Tables}
-use Rattle.prover_state.specs.Internal.Growing.{BasisGrows}
-use Rattle.prover_state.specs.Internal.Standing.{setting_by, without_witnesses, the_state}
+use Rattle.prover_state.specs.Internal.Standing.{setting_by, the_state}
 use Rattle.prover_growth.proofs.BasisLaws.{basis-grows-on, setting-grown}
 use Rattle.prover_growth.proofs.OpeningLaws.{prepared-before, prepared-now, same-grows}
 use Rattle.prover_growth.proofs.opening.prepare.Goals as goal
