@@ -131,6 +131,13 @@ impl<C: Drop, R: DueRule<C>, W: Weigher<C>> Agenda<C, R, W> {
         self.len() == 0
     }
 
+    /// By which rule commands are due.
+    pub fn rule(&self) -> &R
+        ensures { result.now ≡ self.now.rule }
+    {
+        &self.rule
+    }
+
     /// How many numbers were taken so far.
     pub fn pushes(&self) -> u64
         ensures { result ≡ self.now.pushes }

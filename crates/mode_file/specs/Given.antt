@@ -3,7 +3,7 @@ use Rattle.std.specs.Prelude.{ℕ, ◌≤◌, Option, Some, None, unwrap_or}
 use Rattle.mode_file.specs.declared.Mode.{Mode}
 use Rattle.mode_file.specs.declared.given.Given.{Given}
 use Rattle.mode_file.specs.declared.keys.Key.{Key}
-use Rattle.mode_file.specs.declared.keys.Key.TheVariants.{Process, Mate, Confront, Inst, Choose, Grow, Clock, Commands, Conflicts}
+use Rattle.mode_file.specs.declared.keys.Key.TheVariants.{Process, Mate, Confront, Inst, Choose, Grow, Clock, Terms, Commands, Conflicts}
 use Rattle.mode_file.specs.Keys.{standard_number, greatest}
 
 abbrev pub nothing_given : Given
@@ -15,6 +15,7 @@ nothing_given = record {
   choose = None;
   grow = None;
   clock = None;
+  terms = None;
   commands = None;
   conflicts = None;
 }
@@ -27,6 +28,7 @@ number_given given Inst = given.inst
 number_given given Choose = given.choose
 number_given given Grow = given.grow
 number_given given Clock = given.clock
+number_given given Terms = given.terms
 number_given given Commands = given.commands
 number_given given Conflicts = given.conflicts
 
@@ -39,6 +41,7 @@ with_number given Inst n = record given { inst = Some n }
 with_number given Choose n = record given { choose = Some n }
 with_number given Grow n = record given { grow = Some n }
 with_number given Clock n = record given { clock = Some n }
+with_number given Terms n = record given { terms = Some n }
 with_number given Commands n = record given { commands = Some n }
 with_number given Conflicts n = record given { conflicts = Some n }
 
@@ -52,6 +55,7 @@ mode_of given = record {
   choose = unwrap_or given.choose (standard_number Choose);
   grow = unwrap_or given.grow (standard_number Grow);
   clock = unwrap_or given.clock (standard_number Clock);
+  terms = unwrap_or given.terms (standard_number Terms);
   commands = unwrap_or given.commands (standard_number Commands);
   conflicts = unwrap_or given.conflicts (standard_number Conflicts);
 }
@@ -65,5 +69,6 @@ pub record IsInRange (mode : Mode) : Type 0 where
   pub choose : mode.choose ≤ greatest Choose
   pub grow : mode.grow ≤ greatest Grow
   pub clock : mode.clock ≤ greatest Clock
+  pub terms : mode.terms ≤ greatest Terms
   pub commands : mode.commands ≤ greatest Commands
   pub conflicts : mode.conflicts ≤ greatest Conflicts

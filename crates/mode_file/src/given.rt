@@ -16,6 +16,7 @@ pub(crate) struct Given {
     choose: Option<u32>,
     grow: Option<u32>,
     clock: Option<u32>,
+    terms: Option<u32>,
     commands: Option<u32>,
     conflicts: Option<u64>,
 }
@@ -32,6 +33,7 @@ impl Given {
             choose: None,
             grow: None,
             clock: None,
+            terms: None,
             commands: None,
             conflicts: None,
         }
@@ -49,6 +51,7 @@ impl Given {
             Key::Choose => self.choose.is_some(),
             Key::Grow => self.grow.is_some(),
             Key::Clock => self.clock.is_some(),
+            Key::Terms => self.terms.is_some(),
             Key::Commands => self.commands.is_some(),
             Key::Conflicts => self.conflicts.is_some(),
         }
@@ -66,6 +69,7 @@ impl Given {
             Key::Choose => self.choose = Some(number as u32),
             Key::Grow => self.grow = Some(number as u32),
             Key::Clock => self.clock = Some(number as u32),
+            Key::Terms => self.terms = Some(number as u32),
             Key::Commands => self.commands = Some(number as u32),
             Key::Conflicts => self.conflicts = Some(number),
         }
@@ -83,6 +87,7 @@ impl Given {
             choose: self.choose.unwrap_or(2),
             grow: self.grow.unwrap_or(4),
             clock: self.clock.unwrap_or(0),
+            terms: self.terms.unwrap_or(0),
             commands: self.commands.unwrap_or(20_000),
             conflicts: self.conflicts.unwrap_or(1_000_000),
         }

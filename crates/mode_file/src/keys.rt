@@ -12,11 +12,12 @@ pub(crate) enum Key {
     Choose,
     Grow,
     Clock,
+    Terms,
     Commands,
     Conflicts,
 }
 
-const KEYS: [Key; 9] = [
+const KEYS: [Key; 10] = [
     Key::Process,
     Key::Mate,
     Key::Confront,
@@ -24,6 +25,7 @@ const KEYS: [Key; 9] = [
     Key::Choose,
     Key::Grow,
     Key::Clock,
+    Key::Terms,
     Key::Commands,
     Key::Conflicts,
 ];
@@ -40,6 +42,7 @@ impl Key {
             Key::Choose => b"choose",
             Key::Grow => b"grow",
             Key::Clock => b"clock",
+            Key::Terms => b"terms",
             Key::Commands => b"commands",
             Key::Conflicts => b"conflicts",
         }
@@ -50,7 +53,7 @@ impl Key {
         ensures { result ≡ greatest self }
     {
         match self {
-            Key::Clock => 1,
+            Key::Clock | Key::Terms => 1,
             Key::Commands => 1_000_000,
             Key::Conflicts => 1_000_000_000_000,
             Key::Process | Key::Mate | Key::Confront | Key::Inst | Key::Choose | Key::Grow => 1_000,

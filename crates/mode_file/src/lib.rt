@@ -34,6 +34,7 @@ pub struct Mode {
     pub choose: u32,
     pub grow: u32,
     pub clock: u32,
+    pub terms: u32,
     pub commands: u32,
     pub conflicts: u64,
 }

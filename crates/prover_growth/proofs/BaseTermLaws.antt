@@ -13,8 +13,8 @@ use Rattle.term_bank.proofs.GrowLaws.{grown_term, has_at, has_within}
 use Rattle.instantiate.specs.Listing.{Listing, ids_of}
 use Rattle.search_spec.specs.Each.{Each}
 use Rattle.mode_file.specs.declared.Mode.{Mode}
-use Rattle.search_spec.specs.State.{State, Setting, Typed}
-use Rattle.search_spec.specs.Terms.{first_terms, with_preparation, with_term, with_terms}
+use Rattle.search_spec.specs.State.{State, Typed}
+use Rattle.search_spec.specs.Terms.{first_terms, with_term, with_terms}
 use Rattle.prover_state.specs.Internal.Names.{typed_at, IsPlace}
 use Rattle.prover_state.proofs.EachLaws.{All-from_each}
 
@@ -79,9 +79,9 @@ module _ (mode : Mode) (a : SimpleType) (d : ℕ → Lambda) (ids : List ℕ) (i
 pub terms-all : (mode : Mode) (a : SimpleType) (d : ℕ → Lambda) (ids : List ℕ) (i : ℕ) → length ids ≤ i → (s goal : State) → with_terms mode a (map d (drop i ids)) s ≡ goal → s ≡ goal
 terms-all mode a d ids i h s goal e = sym (ap (λ xs. with_terms mode a (map d xs) s) (drop_of_length-le ids h)) ∙ e
 
--- WHERE A BASE TYPE HAS TERMS
+-- WHERE A TYPE HAS TERMS
 
-some_listed : (terms : List Lambda) (a : SimpleType) (listed : List Listing) → 0 < length (ids_of a listed) → list_any (λ (u : Typed). same_type a u.type) (map (typed_at terms) listed) ≡ true
+pub some_listed : (terms : List Lambda) (a : SimpleType) (listed : List Listing) → 0 < length (ids_of a listed) → list_any (λ (u : Typed). same_type a u.type) (map (typed_at terms) listed) ≡ true
 some_listed terms a [] h = absurd (omega (arith, h))
 some_listed terms a (l ∷ listed) h = go (same_type a l.0) h (some_listed terms a listed)
   where
@@ -90,7 +90,7 @@ some_listed terms a (l ∷ listed) h = go (same_type a l.0) h (some_listed terms
     go true k rest = refl
     go false k rest = rest k
 
-none_listed : (terms : List Lambda) (a : SimpleType) (listed : List Listing) → length (ids_of a listed) ≤ 0 → list_any (λ (u : Typed). same_type a u.type) (map (typed_at terms) listed) ≡ false
+pub none_listed : (terms : List Lambda) (a : SimpleType) (listed : List Listing) → length (ids_of a listed) ≤ 0 → list_any (λ (u : Typed). same_type a u.type) (map (typed_at terms) listed) ≡ false
 none_listed terms a [] h = refl
 none_listed terms a (l ∷ listed) h = go (same_type a l.0) h (none_listed terms a listed)
   where
@@ -98,13 +98,3 @@ none_listed terms a (l ∷ listed) h = go (same_type a l.0) h (none_listed terms
         → (length (ids_of a listed) ≤ 0 → list_any (λ (u : Typed). same_type a u.type) (map (typed_at terms) listed) ≡ false) → (b || list_any (λ (u : Typed). same_type a u.type) (map (typed_at terms) listed)) ≡ false
     go true k rest = absurd (omega (arith, k))
     go false k rest = rest k
-
-module _ (setting : Setting) (n : ℕ) (terms : List Lambda) (listed : List Listing) (s : State) (are : s.terms ≡ map (typed_at terms) listed) where
-  by_test : (b : Bool) → list_any (λ (u : Typed). same_type (base n) u.type) (map (typed_at terms) listed) ≡ b → with_preparation setting (base n) s ≡ (if b then s else with_terms setting.mode (base n) (first_terms (base n)) s)
-  by_test b e = ap (λ (x : Bool). if x then s else with_terms setting.mode (base n) (first_terms (base n)) s) (ap (list_any (λ (u : Typed). same_type (base n) u.type)) are ∙ e)
-
-  pub base-before : 0 < length (ids_of (base n) listed) → s ≡ with_preparation setting (base n) s
-  base-before h = sym (by_test true (some_listed terms (base n) listed h))
-
-  pub base-now : length (ids_of (base n) listed) ≤ 0 → with_terms setting.mode (base n) (first_terms (base n)) s ≡ with_preparation setting (base n) s
-  base-now h = sym (by_test false (none_listed terms (base n) listed h))

@@ -10,3 +10,4 @@ pub mod DenialLaws
 pub mod TakerLaws
 pub mod ParkedLaws
 pub mod WitnessedLaws
+pub mod OffersLaws

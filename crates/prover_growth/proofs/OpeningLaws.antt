@@ -2,11 +2,13 @@
 use Rattle.std.specs.Prelude.{◌≡◌, ◌||◌, ◌+◌, ℕ, Bool, true, false, List, [], drop, slice_get, Some, refl, if◌then◌else◌}
 use Rattle.std.specs.List.{list_any}
 use Rattle.std.proofs.Common.{sym, ap, subst, ◌∙◌, append-nil}
-use Rattle.stt_core.specs.SimpleType.{SimpleType, arrow, same_type}
+use Rattle.stt_core.specs.SimpleType.{SimpleType, arrow}
 use Rattle.stt_core.proofs.ListLaws.{drop_got}
 use Rattle.search_spec.specs.Partial.{blank_partial}
-use Rattle.search_spec.specs.State.{State, Setting, Sketch}
-use Rattle.search_spec.specs.Terms.{with_opening, with_preparation}
+use Rattle.search_spec.specs.State.{State, Setting}
+use Rattle.search_spec.specs.Terms.{with_terms, with_opening}
+use Rattle.search_spec.specs.Offers.{is_prepared, early_terms}
+use Rattle.search_spec.specs.Preparing.{with_beginning, with_preparation}
 use Rattle.prover_state.specs.declared.tables.Basis.{Basis}
 use Rattle.prover_state.specs.Internal.Growing.{BasisGrows}
 
@@ -21,18 +23,22 @@ module _ {X : Type 0} (test : X → Bool) (xs : List X) (i : ℕ) (x : X) (at : 
   pub any-found : test x ≡ true → true ≡ all
   any-found e = sym (ap (λ (b : Bool). b || list_any test (drop (i + 1) xs)) e) ∙ from_here
 
-module _ (setting : Setting) (s : State) (c a b : SimpleType) (is : c ≡ arrow a b) (roots : Bool) (found : list_any (λ (p : Sketch). same_type c p.type) s.parked ≡ roots) where
-  abbrev P : SimpleType → Type 0
-  P x = with_preparation setting x s ≡ (if list_any (λ (p : Sketch). same_type x p.type) s.parked then s else with_opening setting (record { type = x; partial = blank_partial x }) s)
+-- a function type begins by opening one hole under its binders
+pub function-begins : (setting : Setting) (s : State) (c a b : SimpleType) → c ≡ arrow a b → with_opening setting (record { type = c; partial = blank_partial c }) s ≡ with_beginning setting c s
+function-begins setting s c a b is =
+    let P : SimpleType → Type 0 = λ x. with_opening setting (record { type = x; partial = blank_partial x }) s ≡ with_beginning setting x s in
+    subst P (sym is) refl
 
-  by_roots : with_preparation setting c s ≡ (if roots then s else with_opening setting (record { type = c; partial = blank_partial c }) s)
-  by_roots = subst P (sym is) refl ∙ ap (λ (x : Bool). if x then s else with_opening setting (record { type = c; partial = blank_partial c }) s) found
+-- a type is prepared unless it was before
+module _ (setting : Setting) (a : SimpleType) (s : State) where
+  abbrev begun : State
+  begun = with_beginning setting a (with_terms setting.mode a (early_terms setting.mode a s) s)
 
-  pub prepared-before : roots ≡ true → s ≡ with_preparation setting c s
-  prepared-before e = sym (by_roots ∙ ap (λ (x : Bool). if x then s else with_opening setting (record { type = c; partial = blank_partial c }) s) e)
+  pub prepared-before : is_prepared setting.mode a s ≡ true → s ≡ with_preparation setting a s
+  prepared-before e = sym (ap (λ (b : Bool). if b then s else begun) e)
 
-  pub prepared-now : roots ≡ false → with_opening setting (record { type = c; partial = blank_partial c }) s ≡ with_preparation setting c s
-  prepared-now e = sym (by_roots ∙ ap (λ (x : Bool). if x then s else with_opening setting (record { type = c; partial = blank_partial c }) s) e)
+  pub prepared-now : is_prepared setting.mode a s ≡ false → begun ≡ with_preparation setting a s
+  prepared-now e = sym (ap (λ (b : Bool). if b then s else begun) e)
 
 -- a basis that stays
 pub same-grows : (old new : Basis) → new ≡ old → BasisGrows old new

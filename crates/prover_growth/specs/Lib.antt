@@ -7,7 +7,9 @@ pub use Rattle.search_spec.specs.Alternatives
 pub use Rattle.search_spec.specs.Commands
 pub use Rattle.search_spec.specs.Each
 pub use Rattle.search_spec.specs.Heads
+pub use Rattle.search_spec.specs.Offers
 pub use Rattle.search_spec.specs.Partial
+pub use Rattle.search_spec.specs.Preparing
 pub use Rattle.search_spec.specs.State
 pub use Rattle.search_spec.specs.Terms as SearchSpecTerms
 pub use Rattle.search_spec.specs.TypedState

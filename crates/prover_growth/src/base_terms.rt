@@ -6,7 +6,8 @@ ghost use Rattle.stt_core.specs.View.{the_type};
 ghost use Rattle.term_bank.specs.Content.{HasTerm};
 ghost use Rattle.term_bank.specs.Terms.{term_at};
 ghost use Rattle.search_spec.specs.Each.{Each};
-ghost use Rattle.search_spec.specs.Terms.{first_terms, with_preparation, with_terms};
+ghost use Rattle.search_spec.specs.Preparing.{with_beginning};
+ghost use Rattle.search_spec.specs.Terms.{first_terms, with_terms};
 ghost use Rattle.prover_state.specs.Lasting.{declarations_of, lasting};
 ghost use Rattle.prover_state.specs.Internal.Growing.{BasisGrows};
 ghost use Rattle.prover_state.specs.Internal.Names.{IsPlace};
@@ -133,14 +134,11 @@ fn add_terms<W: Weigher<Waiting>>(core: &mut Core<W>, ty: &Ty, ids: &Ids) -> Res
     Ok(())
 }
 
-/// A base type gets its first terms, where it has none.
-pub(crate) fn prepare_base<W: Weigher<Waiting>>(
-    core: &mut Core<W>,
-    n: u32,
-) -> Result<(), AllocError>
+/// A base type gets its first terms.
+pub(crate) fn begin_base<W: Weigher<Waiting>>(core: &mut Core<W>, n: u32) -> Result<(), AllocError>
     requires right { IsRightState core.old.tables core.old.plan }
     requires declared { is_declared (length core.old.tables.basis.bank.bases) (base n) ≡ true }
-    ensures state { OnOk result (the_state core.new.tables core.new.plan ≡ with_preparation (setting_by core.old.tables core.old.plan) (base n) (the_state core.old.tables core.old.plan)) }
+    ensures state { OnOk result (the_state core.new.tables core.new.plan ≡ with_beginning (setting_by core.old.tables core.old.plan) (base n) (the_state core.old.tables core.old.plan)) }
     ensures right { OnOk result (IsRightState core.new.tables core.new.plan) }
     ensures basis { OnOk result (BasisGrows core.old.tables.basis core.new.tables.basis) }
     ensures tables { OnOk result (core.new.tables ≡ record core.old.tables { basis = core.new.tables.basis; terms = core.new.tables.terms }) }
@@ -148,9 +146,6 @@ pub(crate) fn prepare_base<W: Weigher<Waiting>>(
     ensures lasts { lasting core.new.tables ≡ lasting core.old.tables }
 {
     let ty = Ty::Base(n);
-    if core.tables.terms.terms_of(&ty).len() > 0 {
-        return Ok(());
-    }
     let first = first_terms_of(core.tables.alloc, &mut core.tables.basis, n)?;
     add_terms(core, &ty, &first)?;
     Ok(())

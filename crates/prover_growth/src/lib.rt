@@ -5,6 +5,7 @@ mod base_terms;
 mod denial;
 mod filling;
 mod heads;
+mod offers;
 mod opening;
 mod parking;
 mod stems;
@@ -12,5 +13,6 @@ mod taking;
 mod witness;
 
 pub use filling::fill;
+pub use offers::offer_new;
 pub use opening::{open_stem, prepare};
 pub use witness::add_witness;

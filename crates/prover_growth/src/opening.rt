@@ -3,17 +3,23 @@ ghost use Rattle.std.specs.Prelude.{◌≡◌, true, length, OnOk};
 ghost use Rattle.std.specs.List.{list_any};
 ghost use Rattle.stt_core.specs.SimpleType.{SimpleType, arrow, is_declared, same_type};
 ghost use Rattle.stt_core.specs.View.{the_type};
-ghost use Rattle.search_spec.specs.Terms.{with_opening, with_preparation};
+ghost use Rattle.search_spec.specs.Offers.{is_prepared, is_ranged_over};
+ghost use Rattle.search_spec.specs.Preparing.{with_beginning, with_preparation};
+ghost use Rattle.search_spec.specs.Terms.{with_opening};
+ghost use Rattle.command_queue.specs.Queue.{Queue};
 ghost use Rattle.prover_state.specs.Lasting.{lasting};
+ghost use Rattle.prover_state.specs.declared.command.Planned.{Planned};
+ghost use Rattle.prover_state.specs.declared.command.Delays.{Delays};
 ghost use Rattle.prover_state.specs.Internal.Growing.{BasisGrows};
 ghost use Rattle.prover_state.specs.Internal.Heads.{sketch_of, IsStem};
-ghost use Rattle.prover_state.specs.Internal.Standing.{scope_by, setting_by, sketches_in, the_state, IsRightState};
+ghost use Rattle.prover_state.specs.Internal.Standing.{scope_by, setting_by, sketches_in, state_parts, the_state, IsRightState};
 
-use crate::base_terms::prepare_base;
+use crate::base_terms::begin_base;
 use crate::heads::push_heads;
+use crate::offers::offer_early;
 use crate::parking::park;
 use command_queue::Weigher;
-use prover_state::{Core, Stem, Waiting};
+use prover_state::{Core, Stem, Tables, Waiting};
 use std::alloc::AllocError;
 use std::rc::Rc;
 use stt_core::{Ty, Types};
@@ -46,27 +52,78 @@ pub fn open_stem<W: Weigher<Waiting>>(core: &mut Core<W>, stem: Stem) -> Result<
     Ok(())
 }
 
-/// For a function type one hole under its binders is opened, where none of its partial terms is parked.
-fn prepare_function<W: Weigher<Waiting>>(core: &mut Core<W>, ty: &Ty) -> Result<(), AllocError>
+/// For a function type one hole under its binders is opened.
+fn begin_function<W: Weigher<Waiting>>(core: &mut Core<W>, ty: &Ty) -> Result<(), AllocError>
     requires right { IsRightState core.old.tables core.old.plan }
     requires function { (a : SimpleType) × ((b : SimpleType) × (the_type ty.now ≡ arrow a b)) }
-    ensures state { OnOk result (the_state core.new.tables core.new.plan ≡ with_preparation (setting_by core.old.tables core.old.plan) (the_type ty.now) (the_state core.old.tables core.old.plan)) }
+    ensures state { OnOk result (the_state core.new.tables core.new.plan ≡ with_beginning (setting_by core.old.tables core.old.plan) (the_type ty.now) (the_state core.old.tables core.old.plan)) }
     ensures right { OnOk result (IsRightState core.new.tables core.new.plan) }
     ensures tables { OnOk result (core.new.tables ≡ record core.old.tables { stems = core.new.tables.stems; open_holes = core.new.tables.open_holes; holes = core.new.tables.holes; roots = core.new.tables.roots }) }
     ensures rule { OnOk result (core.new.plan.rule ≡ core.old.plan.rule) }
     ensures lasts { lasting core.new.tables ≡ lasting core.old.tables }
 {
-    if has_type(&core.tables.roots, ty) {
-        return Ok(());
-    }
     let alloc = core.tables.alloc;
     let blank = Rc::new(alloc, ty.try_clone(alloc)?)?;
     open_stem(core, Stem::Blank(blank))?;
     Ok(())
 }
 
-/// A type is prepared: a base type gets its first terms, where it has none, and for a function type one hole under its binders is
-/// opened, where none of its partial terms is parked.
+/// A base type gets its first terms, and for a function type one hole under its binders is opened.
+fn begin<W: Weigher<Waiting>>(core: &mut Core<W>, ty: &Ty) -> Result<(), AllocError>
+    requires right { IsRightState core.old.tables core.old.plan }
+    requires declared { is_declared (length core.old.tables.basis.bank.bases) (the_type ty.now) ≡ true }
+    ensures state { OnOk result (the_state core.new.tables core.new.plan ≡ with_beginning (setting_by core.old.tables core.old.plan) (the_type ty.now) (the_state core.old.tables core.old.plan)) }
+    ensures right { OnOk result (IsRightState core.new.tables core.new.plan) }
+    ensures basis { OnOk result (BasisGrows core.old.tables.basis core.new.tables.basis) }
+    ensures tables { OnOk result (core.new.tables ≡ record core.old.tables { basis = core.new.tables.basis; terms = core.new.tables.terms; stems = core.new.tables.stems; open_holes = core.new.tables.open_holes; holes = core.new.tables.holes; roots = core.new.tables.roots }) }
+    ensures rule { OnOk result (core.new.plan.rule ≡ core.old.plan.rule) }
+    ensures lasts { lasting core.new.tables ≡ lasting core.old.tables }
+{
+    match ty {
+        Ty::Base(n) => {
+            begin_base(core, *n)?;
+            Ok(())
+        }
+        Ty::Arrow(_, _) => {
+            begin_function(core, ty)?;
+            Ok(())
+        }
+    }
+}
+
+/// Whether a type has terms.
+fn has_terms(tables: &Tables, ty: &Ty) -> bool
+    ensures { result ≡ list_any (λ u. same_type (the_type ty.now) u.type) (state_parts tables.now).terms }
+{
+    tables.terms.terms_of(ty).len() > 0
+}
+
+/// Whether a processed literal ranges over a type.
+fn is_ranged_over(tables: &Tables, ty: &Ty) -> bool
+    requires right { (q : Queue Planned Delays) × IsRightState tables.now q }
+    ensures { result ≡ is_ranged_over (the_type ty.now) (state_parts tables.now) }
+{
+    tables.universals.terms_of(ty).len() > 0
+}
+
+/// Whether a type is prepared.
+pub(crate) fn is_prepared<W: Weigher<Waiting>>(core: &Core<W>, ty: &Ty) -> bool
+    requires right { IsRightState core.now.tables core.now.plan }
+    ensures { result ≡ is_prepared core.now.plan.rule.mode (the_type ty.now) (the_state core.now.tables core.now.plan) }
+{
+    match ty {
+        Ty::Base(_) => {
+            if core.plan.mode().terms == 0 {
+                has_terms(&core.tables, ty)
+            } else {
+                is_ranged_over(&core.tables, ty)
+            }
+        }
+        Ty::Arrow(_, _) => has_type(&core.tables.roots, ty),
+    }
+}
+
+/// A type is prepared, unless it was before: it gets the terms that are offered early, and begins.
 pub fn prepare<W: Weigher<Waiting>>(core: &mut Core<W>, ty: &Ty) -> Result<(), AllocError>
     requires right { IsRightState core.old.tables core.old.plan }
     requires declared { is_declared (length core.old.tables.basis.bank.bases) (the_type ty.now) ≡ true }
@@ -77,14 +134,10 @@ pub fn prepare<W: Weigher<Waiting>>(core: &mut Core<W>, ty: &Ty) -> Result<(), A
     ensures rule { OnOk result (core.new.plan.rule ≡ core.old.plan.rule) }
     ensures lasts { lasting core.new.tables ≡ lasting core.old.tables }
 {
-    match ty {
-        Ty::Base(n) => {
-            prepare_base(core, *n)?;
-            Ok(())
-        }
-        Ty::Arrow(_, _) => {
-            prepare_function(core, ty)?;
-            Ok(())
-        }
+    if is_prepared(core, ty) {
+        return Ok(());
     }
+    offer_early(core, ty)?;
+    begin(core, ty)?;
+    Ok(())
 }

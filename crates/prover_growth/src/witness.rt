@@ -6,10 +6,11 @@ ghost use Rattle.tableau_calculus.specs.Literals.{minus};
 ghost use Rattle.literal_map.specs.Atoms.{bank_literal};
 ghost use Rattle.search_spec.specs.State.{grow, with_commands};
 ghost use Rattle.search_spec.specs.Witness.{has_hole_of, with_witness};
+ghost use Rattle.prover_growth.specs.Internal.Denials.{with_row};
 ghost use Rattle.prover_state.specs.Lasting.{lasting};
 ghost use Rattle.prover_state.specs.Internal.Growing.{BasisWidens};
 ghost use Rattle.prover_state.specs.Internal.Names.{IsNumberIn};
-ghost use Rattle.prover_state.specs.Internal.Standing.{setting_by, sketches_in, the_state, IsRightState};
+ghost use Rattle.prover_state.specs.Internal.Standing.{rows_in, setting_by, sketches_in, the_state, IsRightState};
 ghost use Rattle.prover_state.specs.Internal.Steps.{IsMadeInstance, StepsGrow};
 
 use crate::denial::{denied_target, deny};
@@ -46,6 +47,8 @@ pub fn add_witness<W: Weigher<Waiting>>(core: &mut Core<W>, lit: SatLit) -> Resu
     ensures state { OnOk result ((a : SimpleType) (f : Lambda) → bank_literal core.old.tables.basis.bank.terms core.old.tables.basis.lits lit ≡ minus (every a f)
         → the_state core.new.tables core.new.plan ≡ with_witness (setting_by core.old.tables core.old.plan) a f (the_state core.old.tables core.old.plan)) }
     ensures right { OnOk result (IsRightState core.new.tables core.new.plan) }
+    ensures rows { OnOk result ((a : SimpleType) (f : Lambda) → bank_literal core.old.tables.basis.bank.terms core.old.tables.basis.lits lit ≡ minus (every a f)
+        → rows_in core.new.tables.basis ≡ with_row (rows_in core.old.tables.basis) (record { type = a; predicate = f })) }
     ensures basis { OnOk result (BasisWidens core.old.tables.basis core.new.tables.basis) }
     ensures steps { OnOk result (StepsGrow (IsMadeInstance core.new.tables.basis) core.old.tables.steps core.new.tables.steps) }
     ensures tables { OnOk result (core.new.tables ≡ record core.old.tables { basis = core.new.tables.basis; seen = core.new.tables.seen; steps = core.new.tables.steps; solver = core.new.tables.solver; takers = core.new.tables.takers }) }

@@ -2,7 +2,7 @@
 use Rattle.std.specs.Prelude.{◌≡◌, ◌≤◌, ◌+◌, ◌*◌, ◌==◌, ◌++◌, ◌&&◌, ℕ, zero, suc, Bool, true, false, not, List, [], ◌∷◌, map, filter, Option, Some, None, refl, if◌then◌else◌}
 use Rattle.std.specs.List.{list_any, list_all, flat_map}
 use Rattle.std.proofs.Common.{ap, subst, arith}
-use Rattle.stt_core.specs.SimpleType.{SimpleType, base, arrow, formula, same_type, target}
+use Rattle.stt_core.specs.SimpleType.{SimpleType, base, arrow, formula, target}
 use Rattle.stt_core.specs.Lambda.{falsity, implication, all, equality, Lambda, constant, app, imp, eq, every}
 use Rattle.stt_core.specs.SameTerm.{same_term}
 use Rattle.stt_core.specs.Typing.{type_of}
@@ -21,10 +21,12 @@ use Rattle.search_spec.specs.Queue.{new_entries, first_waiting, next_command}
 use Rattle.search_spec.specs.State.{State, Setting, Sketch, Command, process, mate, confront, inst, choose, describe, grow, delay, due, with_commands, scope_in}
 use Rattle.search_spec.specs.Alternatives.{Alternatives, imp_pos, imp_neg, bool_pos, bool_neg, fun_pos, fun_neg, all_pos, all_neg, differ, con, cho, des}
 use Rattle.search_spec.specs.Instances.{with_literal, with_literals, with_instance}
-use Rattle.search_spec.specs.Terms.{terms_of, universals, with_term, with_terms, with_opening, first_terms, with_preparation}
+use Rattle.search_spec.specs.Terms.{terms_of, universals, with_term, with_terms, with_opening, first_terms}
+use Rattle.search_spec.specs.Offers.{is_prepared, early_terms, offered_witness, offered_sides}
+use Rattle.search_spec.specs.Preparing.{with_beginning, with_preparation}
 use Rattle.search_spec.specs.Partners.{matings, confrontations}
 use Rattle.search_spec.specs.Selections.{Selection, by_choice, by_description, selections_in, with_selection, with_selections}
-use Rattle.search_spec.specs.Witness.{same_row, witness_of, has_hole_of, with_new_witness, with_witness}
+use Rattle.search_spec.specs.Witness.{same_row, witness_of, has_hole_of, with_new_witness, with_witness, with_denied}
 use Rattle.search_spec.specs.Processing.{with_decomposition, with_confrontations, with_equation, with_universal, with_matings, with_rules, with_processing}
 use Rattle.search_spec.specs.Commands.{with_confrontation, with_instantiation, with_growth, growth_by, with_command}
 use Rattle.search_spec.specs.After.{nothing_yet, starting_state, with_taken, after_command, next_state, state_after}
@@ -77,12 +79,15 @@ module _ (setting : Setting) (short : AreShort setting) (n : ℕ) where
   opened-paced : (p : Sketch) (s : State) → Good s → Good (with_opening setting p s)
   opened-paced p s g = pushed-paced (map (grow p) (heads_for (scope_in setting s) (first_hole [] p.partial))) (record s { parked = s.parked ++ p ∷ [] }) g
 
+  begun-paced : (a : SimpleType) (s : State) → Good s → Good (with_beginning setting a s)
+  begun-paced (base k) s g = with_terms-paced (base k) (first_terms (base k)) s g
+  begun-paced (arrow a b) s g = opened-paced (record { type = arrow a b; partial = blank_partial (arrow a b) }) s g
+
   prepared-paced : (a : SimpleType) (s : State) → Good s → Good (with_preparation setting a s)
-  prepared-paced (base k) s g =
-      pick_good Good (list_any (λ u. same_type (base k) u.type) s.terms) s (with_terms setting.mode (base k) (first_terms (base k)) s) g (with_terms-paced (base k) (first_terms (base k)) s g)
-  prepared-paced (arrow a b) s g =
-      let p : Sketch = record { type = arrow a b; partial = blank_partial (arrow a b) } in
-      pick_good Good (list_any (λ q. same_type (arrow a b) q.type) s.parked) s (with_opening setting p s) g (opened-paced p s g)
+  prepared-paced a s g =
+      let us = early_terms setting.mode a s in
+      let more = with_terms setting.mode a us s in
+      pick_good Good (is_prepared setting.mode a s) s (with_beginning setting a more) g (begun-paced a more (with_terms-paced a us s g))
 
   with_selection-paced : (p : Selection) (s : State) → Good s → Good (with_selection setting.mode p s)
   with_selection-paced (by_choice a f) s g =
@@ -108,7 +113,9 @@ module _ (setting : Setting) (short : AreShort setting) (n : ℕ) where
   equated-paced (base zero) true u v s g = with_instance-paced (plus (eq formula u v) ∷ []) (bool_pos u v) s g
   equated-paced (base zero) false u v s g = with_instance-paced (minus (eq formula u v) ∷ []) (bool_neg u v) s g
   equated-paced (arrow a b) true u v s g = with_instance-paced (plus (eq (arrow a b) u v) ∷ []) (fun_pos a b u v) s g
-  equated-paced (arrow a b) false u v s g = with_instance-paced (minus (eq (arrow a b) u v) ∷ []) (fun_neg a b u v) s g
+  equated-paced (arrow a b) false u v s g =
+      let us = offered_sides setting.mode u v in
+      with_instance-paced (minus (eq (arrow a b) u v) ∷ []) (fun_neg a b u v) (with_terms setting.mode (arrow a b) us s) (with_terms-paced (arrow a b) us s g)
   equated-paced (base (suc k)) true u v s g = confronted-paced (base (suc k)) (plus (eq (base (suc k)) u v)) s g
   equated-paced (base (suc k)) false u v s g =
       let b = base (suc k) in
@@ -135,6 +142,14 @@ module _ (setting : Setting) (short : AreShort setting) (n : ℕ) where
       (with_instance-paced l (all_neg a f w) s g)
       (pushed-paced (map (λ p. grow p w) (filter (has_hole_of (target a)) added.parked)) added (with_instance-paced l (all_neg a f w) wide g))
 
+  denied-paced : (a : SimpleType) (f : Lambda) (s : State) → Good s → Good (with_denied setting a f s)
+  denied-paced a f s g =
+      let r : Row = record { type = a; predicate = f } in
+      let done = with_witness setting a f s in
+      let us = offered_witness setting.mode a (witness_of s.rows r) done in
+      let k = witnessed-paced a f s g in
+      pick_good Good (list_any (same_row r) s.rows) done (with_terms setting.mode a us done) k (with_terms-paced a us done k)
+
   worked-paced : (sign : Bool) (t : Lambda) (s : State) → Good s → Good (with_rules setting sign t s)
   worked-paced true (constant falsity) s g = with_instance-paced (plus (constant falsity) ∷ []) [] s g
   worked-paced true (app (app (constant implication) u) v) s g = with_instance-paced (plus (imp u v) ∷ []) (imp_pos u v) s g
@@ -144,7 +159,7 @@ module _ (setting : Setting) (short : AreShort setting) (n : ℕ) where
       pick_good Good (same_term u v) (with_instance setting.mode (minus (eq a u v) ∷ []) [] s) (with_equation setting a false u v s)
       (with_instance-paced (minus (eq a u v) ∷ []) [] s g) (equated-paced a false u v s g)
   worked-paced true (app (constant (all a)) f) s g = quantified-paced a f s g
-  worked-paced false (app (constant (all a)) f) s g = witnessed-paced a f s g
+  worked-paced false (app (constant (all a)) f) s g = denied-paced a f s g
   worked-paced sign t s g = mated-paced (record { positive = sign; atom = t }) s g
 
   processed-paced : (l : Literal) (s : State) → Good s → Good (with_processing setting l s)

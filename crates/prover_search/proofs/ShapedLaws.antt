@@ -16,7 +16,7 @@ use Rattle.search_spec.specs.Processing.{with_rules, with_matings}
 use Rattle.prover_state.specs.Internal.Pending.{equation_type}
 use Rattle.prover_state.specs.Internal.Selecting.{term_parts}
 use Rattle.prover_state.specs.Internal.Shapes.{IsBaseEquation}
-use Rattle.prover_search.specs.Internal.Working.{equation_shape, shape_of}
+use Rattle.prover_search.specs.Internal.Working.{equation_shape, shape_of, IsEquated}
 use Rattle.prover_search.specs.declared.shape.Shape.{Shape}
 use Rattle.prover_search.specs.declared.shape.Shape.TheVariants.{Falsity, Implication, FormulaEquation, FunctionEquation, BaseEquation, Quantified, Other}
 use Rattle.prover_search.proofs.RuleUses.{head_of-applied}
@@ -81,18 +81,23 @@ shaped-as t x e = let P : Shape → Type 0 = λ y. IsShaped t y in subst P e (sh
 pub base-equation : (t : Lambda) (n : ℕ) → shape_of t ≡ BaseEquation n → IsBaseEquation t
 base-equation t n e = let k = shaped-as t (BaseEquation n) e in record { base_number = k.0; left = k.1; right = k.2; is = k.4 }
 
+pub base-equated : (t : Lambda) (n : ℕ) → shape_of t ≡ BaseEquation n → IsEquated t
+base-equated t n e = let k = shaped-as t (BaseEquation n) e in record { type = base (suc k.0); left = k.1; right = k.2; is = k.4 }
+
+pub function-equated : (t : Lambda) → shape_of t ≡ FunctionEquation → IsEquated t
+function-equated t e = let k = shaped-as t FunctionEquation e in record { type = arrow k.0 k.1; left = k.2; right = k.3; is = k.4 }
+
 -- the sides are those of an equation on the type of this number
 pub base-sides : (t : Lambda) (n : ℕ) (x y : Lambda) → shape_of t ≡ BaseEquation n → t ≡ eq (equation_type t) x y → (m : ℕ) × (n ≡ suc m) × (t ≡ eq (base (suc m)) x y)
 base-sides t n x y e f = let k = shaped-as t (BaseEquation n) e in (k.0, k.3, f ∙ ap (λ u. eq (equation_type u) x y) k.4)
 
 -- the parts of an equation are its sides
-pub sides-are : (t : Lambda) → IsBaseEquation t → (x y : Lambda) → slice_get (term_parts t) 0 ≡ Some x → slice_get (term_parts t) 1 ≡ Some y → t ≡ eq (equation_type t) x y
+pub sides-are : (t : Lambda) → IsEquated t → (x y : Lambda) → slice_get (term_parts t) 0 ≡ Some x → slice_get (term_parts t) 1 ≡ Some y → t ≡ eq (equation_type t) x y
 sides-are t h x y =
-    let b : SimpleType = base (suc h.base_number) in
     let P : Lambda → Type 0 = λ u. slice_get (term_parts u) 0 ≡ Some x → slice_get (term_parts u) 1 ≡ Some y → u ≡ eq (equation_type u) x y in
-    subst P (sym h.is) (λ p q. ap₂ (eq b) (same_Some h.left x p) (same_Some h.right y q))
+    subst P (sym h.is) (λ p q. ap₂ (eq h.type) (same_Some h.left x p) (same_Some h.right y q))
 
-pub two-parts : (t : Lambda) → IsBaseEquation t → length (term_parts t) ≡ 2
+pub two-parts : (t : Lambda) → IsEquated t → length (term_parts t) ≡ 2
 two-parts t h = ap (λ u. length (term_parts u)) h.is
 
 -- what has equal sides is an equation

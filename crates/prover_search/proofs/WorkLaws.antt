@@ -1,20 +1,26 @@
 -- What the work on a literal makes of the state.
-use Rattle.std.specs.Prelude.{◌≡◌, ◌&&◌, ◌++◌, ℕ, suc, Bool, true, false, [], ◌∷◌, map, if◌then◌else◌, refl}
+use Rattle.std.specs.Prelude.{◌≡◌, ◌&&◌, ◌++◌, ℕ, suc, Bool, true, false, [], ◌∷◌, map, length, if◌then◌else◌, refl}
+use Rattle.std.specs.List.{list_any}
 use Rattle.std.proofs.Common.{sym, ap, ap₂, ◌∙◌, subst}
-use Rattle.stt_core.specs.SimpleType.{SimpleType, base}
-use Rattle.stt_core.specs.Lambda.{Lambda, eq, every}
+use Rattle.stt_core.specs.SimpleType.{SimpleType, base, arrow}
+use Rattle.stt_core.specs.Lambda.{witness, Lambda, constant, eq, every}
 use Rattle.stt_core.specs.SameTerm.{same_term}
 use Rattle.stt_core.specs.Typing.{Scope, type_of}
 use Rattle.tableau_calculus.specs.Literals.{Literal, plus, minus}
+use Rattle.tableau_calculus.specs.Witnesses.{Row}
 use Rattle.sat_base.specs.declared.literal.SatLit.{SatLit}
 use Rattle.command_queue.specs.Queue.{Queue}
 use Rattle.mode_file.specs.declared.Mode.{Mode}
 use Rattle.search_spec.specs.Spine.{head_of, arguments, is_spine, same_head}
 use Rattle.search_spec.specs.State.{State, Setting, inst, with_commands, scope_in}
-use Rattle.search_spec.specs.Alternatives.{Alternatives, differ}
+use Rattle.search_spec.specs.Alternatives.{Alternatives, differ, fun_neg}
 use Rattle.search_spec.specs.Instances.{with_instance}
 use Rattle.search_spec.specs.Partners.{matings, confrontations}
-use Rattle.search_spec.specs.Terms.{terms_of, with_preparation, with_term}
+use Rattle.search_spec.specs.Terms.{terms_of, with_term, with_terms}
+use Rattle.search_spec.specs.Offers.{offered_witness, offered_sides}
+use Rattle.search_spec.specs.Preparing.{with_preparation}
+use Rattle.search_spec.specs.Witness.{same_row, witness_of, with_witness}
+use Rattle.search_spec.proofs.RowLaws.{no_row}
 use Rattle.search_spec.specs.Selections.{selections_in, with_selections}
 use Rattle.search_spec.specs.Processing.{with_rules, with_equation, with_decomposition, with_confrontations, with_matings, with_processing}
 use Rattle.term_bank.specs.Terms.{term_at}
@@ -152,6 +158,46 @@ module _ (t t1 t2 t3 : Tables) (q q1 q2 q3 : Queue Planned Delays) (lit : SatLit
       (pushing
       ∙ ap₂ (λ (m : Mode) (k : Literal). with_commands m (map (inst k) (terms_of (range_of k.atom) ready)) ready) (mode-same t t1 q q1 rule) same
       ∙ ap (λ (x : State). with_commands q.rule.mode (map (inst (plus (every a f))) (terms_of a x)) x) preparing)
+
+  -- the witness was there before
+  pub denied-known : (a : SimpleType) (f : Lambda) → l ≡ minus (every a f) → the_state t1 q1 ≡ with_witness setting a f s → list_any (same_row (record { type = a; predicate = f })) s.rows ≡ true
+      → the_state t1 q1 ≡ with_rules setting l.positive l.atom s
+  denied-known a f e witnessing known =
+      let r : Row = record { type = a; predicate = f } in
+      let done = with_witness setting a f s in
+      let more = with_terms setting.mode a (offered_witness setting.mode a (witness_of s.rows r) done) done in
+      worked-as setting s l (minus (every a f)) (the_state t1 q1) e (witnessing ∙ sym (ap (λ (b : Bool). if b then done else more) known))
+
+  -- the witness is new, and is a term where it is offered
+  pub denied-new : (a : SimpleType) (f : Lambda) → l ≡ minus (every a f) → q1.rule ≡ q.rule → (n : ℕ) → n ≡ length s.rows → the_state t1 q1 ≡ with_witness setting a f s
+      → list_any (same_row (record { type = a; predicate = f })) s.rows ≡ false
+      → the_state t2 q2 ≡ with_terms q1.rule.mode a (offered_witness q1.rule.mode a (constant (witness n)) (the_state t1 q1)) (the_state t1 q1)
+      → the_state t2 q2 ≡ with_rules setting l.positive l.atom s
+  denied-new a f e rule n place witnessing new offering =
+      let r : Row = record { type = a; predicate = f } in
+      let mode : Mode = q.rule.mode in
+      let w : Lambda = witness_of s.rows r in
+      let done = with_witness setting a f s in
+      let one = the_state t1 q1 in
+      worked-as setting s l (minus (every a f)) (the_state t2 q2) e
+      (offering
+      ∙ ap (λ (m : Mode). with_terms m a (offered_witness m a (constant (witness n)) one) one) (mode-same t t1 q q1 rule)
+      ∙ ap (λ (j : ℕ). with_terms mode a (offered_witness mode a (constant (witness j)) one) one) (place ∙ sym (no_row s.rows r new))
+      ∙ ap (λ (x : State). with_terms mode a (offered_witness mode a w x) x) witnessing
+      ∙ sym (ap (λ (b : Bool). if b then done else with_terms mode a (offered_witness mode a w done) done) new))
+
+  -- the sides are terms where they are offered, and the instance is made
+  pub function-is : q1.rule ≡ q.rule → t1.basis ≡ t.basis → (a b : SimpleType) (x y : Lambda) → l ≡ minus (eq (arrow a b) x y) → denies_itself l ≡ false
+      → the_state t1 q1 ≡ with_terms q.rule.mode (arrow a b) (offered_sides q.rule.mode x y) s
+      → the_state t2 q2 ≡ with_instance q1.rule.mode (bank_literal t1.basis.bank.terms t1.basis.lits lit ∷ []) (fun_neg a b x y) (the_state t1 q1)
+      → the_state t2 q2 ≡ with_rules setting l.positive l.atom s
+  function-is rule basis a b x y e differs offering applying =
+      let k : Literal = minus (eq (arrow a b) x y) in
+      worked-as setting s l k (the_state t2 q2) e
+      (applying
+      ∙ ap₂ (λ (m : Mode) (j : Literal). with_instance m (j ∷ []) (fun_neg a b x y) (the_state t1 q1)) (mode-same t t1 q q1 rule) (literal-same t.basis t1.basis lit basis ∙ e)
+      ∙ ap (with_instance q.rule.mode (k ∷ []) (fun_neg a b x y)) offering
+      ∙ worked-equation setting s false (arrow a b) x y (differs-as l k e differs))
 
   -- the sides are for instances, the negated equation is decomposed, and its confrontations are pushed
   pub difference-is : IsBasis t.basis → IsNumberIn t.basis.lits lit → t1.basis ≡ t.basis → IsWider t1.basis t2.basis → q1.rule ≡ q.rule → q2.rule ≡ q1.rule

@@ -1,31 +1,27 @@
 //! Equations.
-ghost use Rattle.std.specs.Prelude.{◌≡◌, ◌<◌, ◌-◌, ◌^◌, true, false, ℕ, suc, length, OnOk};
+ghost use Rattle.std.specs.Prelude.{◌≡◌, ◌<◌, ◌-◌, ◌^◌, false, ℕ, suc, length, OnOk};
 ghost use Rattle.stt_core.specs.SimpleType.{base};
 ghost use Rattle.stt_core.specs.Lambda.{eq};
 ghost use Rattle.tableau_calculus.specs.Literals.{minus};
 ghost use Rattle.term_bank.specs.Terms.{term_at};
 ghost use Rattle.literal_map.specs.Atoms.{bank_atom, bank_literal};
 ghost use Rattle.search_spec.specs.Processing.{with_decomposition, with_rules};
-ghost use Rattle.search_spec.specs.Terms.{with_term};
 ghost use Rattle.prover_state.specs.Lasting.{lasting};
 ghost use Rattle.prover_state.specs.Internal.Names.{IsNumberIn, IsPlace};
-ghost use Rattle.prover_state.specs.Internal.Pending.{equation_type};
-ghost use Rattle.prover_state.specs.Internal.Shapes.{IsBaseEquation};
-ghost use Rattle.prover_state.specs.Internal.Standing.{setting_by, the_state, IsBasis, IsRightState};
+ghost use Rattle.prover_state.specs.Internal.Standing.{setting_by, the_state, IsRightState};
 ghost use Rattle.prover_search.specs.Internal.Developing.{Develops};
 ghost use Rattle.prover_search.specs.Internal.Working.{denies_itself, shape_of};
 ghost use Rattle.prover_search.specs.declared.shape.Shape.TheVariants.{FormulaEquation, FunctionEquation, BaseEquation};
 
 use crate::alone::apply_alone;
-use crate::shape::atom_of;
+use crate::sides::{Sides, add_terms, offer_sides, sides_of};
 use crate::spine::share_spine;
 use command_queue::Weigher;
 use literal_map::RuleKind;
-use prover_state::{Basis, Core, Waiting, part_of};
+use prover_state::{Core, Waiting};
 use sat_base::SatLit;
 use std::alloc::AllocError;
 use stt_core::Ty;
-use term_bank::Id;
 
 /// An equation between formulas, or the negation of one, is split by the truth of its sides.
 pub(crate) fn work_on_formulas<W: Weigher<Waiting>>(
@@ -52,6 +48,26 @@ pub(crate) fn work_on_formulas<W: Weigher<Waiting>>(
     Ok(())
 }
 
+/// The negation of an equation between functions: its sides are terms where they are offered, and they don't agree everywhere.
+fn work_on_unequal<W: Weigher<Waiting>>(core: &mut Core<W>, lit: SatLit) -> Result<(), AllocError>
+    requires right { IsRightState core.old.tables core.old.plan }
+    requires number { IsNumberIn core.old.tables.basis.lits lit }
+    requires few { length core.old.tables.basis.witnesses < 2 ^ 32 - 1 }
+    requires shape { shape_of (bank_atom core.old.tables.basis.bank.terms core.old.tables.basis.lits lit.var.0) ≡ FunctionEquation }
+    requires negative { lit.positive ≡ false }
+    requires differs { denies_itself (bank_literal core.old.tables.basis.bank.terms core.old.tables.basis.lits lit) ≡ false }
+    ensures state { OnOk result (let l = bank_literal core.old.tables.basis.bank.terms core.old.tables.basis.lits lit in the_state core.new.tables core.new.plan ≡ with_rules (setting_by core.old.tables core.old.plan) l.positive l.atom (the_state core.old.tables core.old.plan)) }
+    ensures right { OnOk result (IsRightState core.new.tables core.new.plan) }
+    ensures develops { OnOk result (Develops core.old.tables core.new.tables) }
+    ensures witnesses { OnOk result (core.new.tables.basis.witnesses ≡ core.old.tables.basis.witnesses) }
+    ensures rule { OnOk result (core.new.plan.rule ≡ core.old.plan.rule) }
+    ensures lasts { lasting core.new.tables ≡ lasting core.old.tables }
+{
+    offer_sides(core, lit)?;
+    apply_alone(core, RuleKind::FunNeg, lit)?;
+    Ok(())
+}
+
 /// An equation between functions, or the negation of one, says of these that they agree everywhere, or not.
 pub(crate) fn work_on_functions<W: Weigher<Waiting>>(
     core: &mut Core<W>,
@@ -73,51 +89,7 @@ pub(crate) fn work_on_functions<W: Weigher<Waiting>>(
         apply_alone(core, RuleKind::FunPos, lit)?;
         return Ok(());
     }
-    apply_alone(core, RuleKind::FunNeg, lit)?;
-    Ok(())
-}
-
-/// The sides of an equation.
-#[derive(Clone, Copy)]
-struct Sides {
-    left: Id,
-    right: Id,
-}
-
-/// The sides of an equation on a base type other than that of formulas.
-fn sides_of(basis: &Basis, lit: SatLit) -> Sides
-    requires basis { IsBasis basis.now }
-    requires number { IsNumberIn basis.now.lits lit }
-    requires equation { IsBaseEquation (bank_atom basis.now.bank.terms basis.now.lits lit.var.0) }
-    ensures left { IsPlace basis.now.bank.terms result.left }
-    ensures right { IsPlace basis.now.bank.terms result.right }
-    ensures equation { let t = bank_atom basis.now.bank.terms basis.now.lits lit.var.0 in t ≡ eq (equation_type t) (term_at basis.now.bank.terms result.left) (term_at basis.now.bank.terms result.right) }
-{
-    let atom = atom_of(basis, lit);
-    Sides {
-        left: part_of(&basis.bank, atom, 0),
-        right: part_of(&basis.bank, atom, 1),
-    }
-}
-
-/// Two terms of a base type are for instances.
-fn add_terms<W: Weigher<Waiting>>(
-    core: &mut Core<W>,
-    n: u32,
-    sides: Sides,
-) -> Result<(), AllocError>
-    requires right { IsRightState core.old.tables core.old.plan }
-    requires left_place { IsPlace core.old.tables.basis.bank.terms sides.left }
-    requires right_place { IsPlace core.old.tables.basis.bank.terms sides.right }
-    ensures state { OnOk result (let mode = core.old.plan.rule.mode in the_state core.new.tables core.new.plan ≡ with_term mode (base n) (term_at core.old.tables.basis.bank.terms sides.right) (with_term mode (base n) (term_at core.old.tables.basis.bank.terms sides.left) (the_state core.old.tables core.old.plan))) }
-    ensures right { OnOk result (IsRightState core.new.tables core.new.plan) }
-    ensures tables { OnOk result (core.new.tables ≡ record core.old.tables { terms = core.new.tables.terms }) }
-    ensures rule { OnOk result (core.new.plan.rule ≡ core.old.plan.rule) }
-    ensures lasts { lasting core.new.tables ≡ lasting core.old.tables }
-{
-    let ty = Ty::Base(n);
-    core.add_term(&ty, sides.left)?;
-    core.add_term(&ty, sides.right)?;
+    work_on_unequal(core, lit)?;
     Ok(())
 }
 
@@ -170,7 +142,7 @@ fn work_on_difference<W: Weigher<Waiting>>(
     ensures lasts { lasting core.new.tables ≡ lasting core.old.tables }
 {
     let sides = sides_of(&core.tables.basis, lit);
-    add_terms(core, n, sides)?;
+    add_terms(core, &Ty::Base(n), sides)?;
     decompose(core, lit, sides)?;
     core.push_confrontations(lit)?;
     Ok(())

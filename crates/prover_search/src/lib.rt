@@ -13,6 +13,7 @@ mod propositional;
 mod quantifier;
 mod search;
 mod shape;
+mod sides;
 mod spine;
 mod start;
 mod stepped;

@@ -1,5 +1,5 @@
 //! Claims that a predicate holds everywhere.
-ghost use Rattle.std.specs.Prelude.{◌≡◌, ◌<◌, ◌≤◌, ◌-◌, ◌^◌, true, suc, length, IfOk, OnOk};
+ghost use Rattle.std.specs.Prelude.{◌≡◌, ◌<◌, ◌≤◌, ◌-◌, ◌^◌, true, false, suc, length, IfOk, OnOk};
 ghost use Rattle.stt_core.specs.View.{the_type};
 ghost use Rattle.literal_map.specs.Atoms.{bank_atom, bank_literal};
 ghost use Rattle.search_spec.specs.Processing.{with_rules};
@@ -13,7 +13,7 @@ ghost use Rattle.prover_search.specs.declared.shape.Shape.TheVariants.{Quantifie
 
 use crate::shape::atom_of;
 use command_queue::Weigher;
-use prover_growth::{add_witness, prepare};
+use prover_growth::{add_witness, offer_new, prepare};
 use prover_state::{Basis, Core, Waiting, quantified_type};
 use sat_base::SatLit;
 use std::alloc::{AllocError, Global};
@@ -51,6 +51,29 @@ fn work_on_universal<W: Weigher<Waiting>>(core: &mut Core<W>, lit: SatLit) -> Re
     Ok(())
 }
 
+/// A predicate doesn't hold everywhere: it gets a witness, where it has none, and a new witness is a term where it is offered as one.
+fn work_on_denial<W: Weigher<Waiting>>(core: &mut Core<W>, lit: SatLit) -> Result<(), AllocError>
+    requires right { IsRightState core.old.tables core.old.plan }
+    requires number { IsNumberIn core.old.tables.basis.lits lit }
+    requires few { length core.old.tables.basis.witnesses < 2 ^ 32 - 1 }
+    requires shape { shape_of (bank_atom core.old.tables.basis.bank.terms core.old.tables.basis.lits lit.var.0) ≡ Quantified }
+    requires negative { lit.positive ≡ false }
+    ensures state { OnOk result (let l = bank_literal core.old.tables.basis.bank.terms core.old.tables.basis.lits lit in the_state core.new.tables core.new.plan ≡ with_rules (setting_by core.old.tables core.old.plan) l.positive l.atom (the_state core.old.tables core.old.plan)) }
+    ensures right { OnOk result (IsRightState core.new.tables core.new.plan) }
+    ensures develops { OnOk result (Develops core.old.tables core.new.tables) }
+    ensures witnesses { OnOk result (length core.new.tables.basis.witnesses ≤ suc (length core.old.tables.basis.witnesses)) }
+    ensures rule { OnOk result (core.new.plan.rule ≡ core.old.plan.rule) }
+    ensures lasts { lasting core.new.tables ≡ lasting core.old.tables }
+{
+    let known = core.tables.basis.witnesses.len();
+    add_witness(core, lit)?;
+    if core.tables.basis.witnesses.len() == known {
+        return Ok(());
+    }
+    offer_new(core, lit, known)?;
+    Ok(())
+}
+
 /// A predicate holds everywhere, or it doesn't, and then there is a witness.
 pub(crate) fn work_on_quantified<W: Weigher<Waiting>>(
     core: &mut Core<W>,
@@ -68,7 +91,7 @@ pub(crate) fn work_on_quantified<W: Weigher<Waiting>>(
     ensures lasts { lasting core.new.tables ≡ lasting core.old.tables }
 {
     if !lit.positive {
-        add_witness(core, lit)?;
+        work_on_denial(core, lit)?;
         return Ok(());
     }
     work_on_universal(core, lit)?;

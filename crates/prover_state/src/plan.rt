@@ -96,6 +96,13 @@ impl<W: Weigher<Waiting>> Plan<W> {
         self.agenda.reserve(n)
     }
 
+    /// The mode.
+    pub fn mode(&self) -> Mode
+        ensures { result ≡ self.now.rule.mode }
+    {
+        self.agenda.rule().mode
+    }
+
     /// How many commands were pushed so far.
     pub fn pushes(&self) -> u64
         ensures { result ≡ self.now.pushes }

@@ -75,7 +75,7 @@ pub table_with : (scope : Scope) (rows : List Row) (r : Row) → IsTable scope r
 table_with scope rows r t h e = table-append scope [] rows r t h (λ twice. no_place scope (with_rows scope rows) r h [] rows t e twice.0 twice.1 twice.2)
 
 -- the types of a table's rows are declared
-table_declared : (scope : Scope) (earlier rows : List Row) → IsTableAfter scope earlier rows → AreDeclared scope.bases (map (λ r. r.type) rows)
+pub table_declared : (scope : Scope) (earlier rows : List Row) → IsTableAfter scope earlier rows → AreDeclared scope.bases (map (λ r. r.type) rows)
 table_declared scope earlier [] t = tt
 table_declared scope earlier (r ∷ rows) t = (predicate_declared (with_rows scope earlier) r.type r.predicate t.0, table_declared scope (earlier ++ r ∷ []) rows t.2)
 

@@ -1,6 +1,6 @@
 -- The runs of the worked examples, by computation.
 use Rattle.std.specs.Prelude.{refl}
-use Rattle.search_spec.specs.Rows.{AllRuns, AgreeRuns, ChosenRuns, DescribedRuns, SymRuns, SomeRuns, DueRuns}
+use Rattle.search_spec.specs.Rows.{AllRuns, AgreeRuns, ChosenRuns, DescribedRuns, SymRuns, SomeRuns, DueRuns, OfferedRuns}
 
 pub all_runs : AllRuns
 all_runs = (refl, refl)
@@ -22,3 +22,6 @@ some_runs = (refl, refl)
 
 pub due_runs : DueRuns
 due_runs = (refl, refl, refl, refl)
+
+pub offered_runs : OfferedRuns
+offered_runs = (refl, refl, refl)

@@ -18,13 +18,16 @@ use Rattle.search_spec.specs.Spine.{head_of, arguments, is_spine, same_head}
 use Rattle.search_spec.specs.State.{State, Setting, Typed, inst, with_commands}
 use Rattle.search_spec.specs.Alternatives.{Alternatives, bool_pos, bool_neg, fun_pos, fun_neg, differ}
 use Rattle.search_spec.specs.Instances.{with_instance}
-use Rattle.search_spec.specs.Terms.{terms_of, with_term, with_preparation}
+use Rattle.search_spec.specs.Terms.{terms_of, with_term, with_terms}
+use Rattle.search_spec.specs.Offers.{offers_terms, offered_sides}
+use Rattle.search_spec.specs.Preparing.{with_preparation}
 use Rattle.search_spec.specs.Partners.{matings, confrontations}
 use Rattle.search_spec.specs.Processing.{with_decomposition, with_confrontations, with_equation, with_universal, with_matings}
 use Rattle.search_spec.specs.TypedState.{IsTypedCommand, IsTypedStateWith}
+use Rattle.search_spec.proofs.NamingLaws.{pick_good}
 use Rattle.search_spec.proofs.TypedAlternatives.{alternatives_typed}
 use Rattle.search_spec.proofs.SpineLaws.{spine_is, same_head_is, applied_whole}
-use Rattle.search_spec.proofs.TypedPushes.{each_mapped, each_filtered, pushed-typed, with_instance-typed, with_term-typed, noted-each}
+use Rattle.search_spec.proofs.TypedPushes.{each_mapped, each_filtered, pushed-typed, with_instance-typed, with_term-typed, with_terms-typed, noted-each}
 use Rattle.search_spec.proofs.TypedOpening.{prepared-typed}
 use Rattle.search_spec.proofs.TypedPartners.{head_function, matings-typed, confrontations-typed}
 
@@ -99,7 +102,12 @@ module _ (setting : Setting) (rows : List Row) (good : IsScope (with_rows settin
   equated-typed (base zero) true s t st h g = with_instance-typed setting rows (plus (eq formula s t) ∷ []) (bool_pos s t) st (alternatives_typed over good rows refl (BoolPos 0) _ _ (bool_pos_rule 0 s t) (h, tt)) g
   equated-typed (base zero) false s t st h g = with_instance-typed setting rows (minus (eq formula s t) ∷ []) (bool_neg s t) st (alternatives_typed over good rows refl (BoolNeg 0) _ _ (bool_neg_rule 0 s t) (h, tt)) g
   equated-typed (arrow a b) true s t st h g = with_instance-typed setting rows (plus (eq (arrow a b) s t) ∷ []) (fun_pos a b s t) st (alternatives_typed over good rows refl (FunPos 0) _ _ (fun_pos_rule 0 a b s t) (h, tt)) g
-  equated-typed (arrow a b) false s t st h g = with_instance-typed setting rows (minus (eq (arrow a b) s t) ∷ []) (fun_neg a b s t) st (alternatives_typed over good rows refl (FunNeg 0) _ _ (fun_neg_rule 0 a b s t) (h, tt)) g
+  equated-typed (arrow a b) false s t st h g =
+      let c = arrow a b in
+      let sides = eq_canonical over c s t h.formula in
+      let us = offered_sides setting.mode s t in
+      with_instance-typed setting rows (minus (eq c s t) ∷ []) (fun_neg a b s t) (with_terms setting.mode c us st) (alternatives_typed over good rows refl (FunNeg 0) _ _ (fun_neg_rule 0 a b s t) (h, tt))
+      (with_terms-typed setting rows c us st (pick_good (Each (IsCanonical over [] c)) (offers_terms setting.mode) (s ∷ t ∷ []) [] (sides.left, (sides.right, tt)) tt) g)
   equated-typed (base (suc n)) true s t st h g = confronted-typed n true s t st h g
   equated-typed (base (suc n)) false s t st h g =
       let b = base (suc n) in

@@ -5,7 +5,9 @@ use Rattle.std.proofs.Common.{sym, ap, ◌∙◌, subst, eqb-true}
 use Rattle.stt_core.specs.SimpleType.{SimpleType, formula, target}
 use Rattle.stt_core.specs.Lambda.{witness, falsity, implication, all, equality, Lambda, constant, app, imp, eq, every}
 use Rattle.stt_core.specs.Typing.{Scope, IsScope, constant_type}
+use Rattle.stt_core.specs.Canonical.{IsCanonical}
 use Rattle.stt_core.specs.SameTerm.{same_term}
+use Rattle.normal_forms.specs.Normal.{eta}
 use Rattle.stt_core.proofs.ListLaws.{mapped_get, slice_get-end}
 use Rattle.stt_core.proofs.TypeLaws.{constant_declared}
 use Rattle.tableau_calculus.specs.Literals.{Literal, plus, minus, IsLiteral, IsBranch}
@@ -18,13 +20,16 @@ use Rattle.search_spec.specs.Partial.{Hole, first_hole}
 use Rattle.search_spec.specs.State.{State, Setting, grow, scope_in}
 use Rattle.search_spec.specs.Alternatives.{imp_pos, imp_neg, all_neg}
 use Rattle.search_spec.specs.Instances.{with_instance}
+use Rattle.search_spec.specs.Terms.{with_terms}
+use Rattle.search_spec.specs.Offers.{takes_witness, offered_witness}
 use Rattle.search_spec.specs.Selections.{selections_in, with_selections}
-use Rattle.search_spec.specs.Witness.{same_row, witness_of, is_hole_of, has_hole_of, with_new_witness, with_witness}
+use Rattle.search_spec.specs.Witness.{same_row, witness_of, is_hole_of, has_hole_of, with_new_witness, with_denied}
 use Rattle.search_spec.specs.Processing.{with_equation, with_rules, with_processing}
 use Rattle.search_spec.specs.TypedState.{GrowsSketch, IsTypedSketch, IsTypedCommand, IsTypedStateWith, IsTypedState}
 use Rattle.search_spec.proofs.NamingLaws.{pick_good}
 use Rattle.search_spec.proofs.TypedAlternatives.{alternatives_typed}
-use Rattle.search_spec.proofs.TypedPushes.{each_mapped, each_filtered, pushed-typed, with_instance-typed}
+use Rattle.search_spec.proofs.TypedPushes.{each_mapped, each_filtered, pushed-typed, with_instance-typed, with_terms-typed}
+use Rattle.search_spec.proofs.TypedOpening.{witness-typed}
 use Rattle.search_spec.proofs.TypedSelections.{selections_in-typed, with_selections-typed}
 use Rattle.search_spec.proofs.WiderLaws.{literal_wider, state_wider}
 use Rattle.search_spec.proofs.RowLaws.{row_at, no_row, table_with, table_scope}
@@ -72,7 +77,10 @@ module _ (setting : Setting) (over : IsScope setting.scope) where
       }) s.parked g.parked)
 
   module _ (s : State) (state : IsTypedState setting s) where
-    new_witness : (a : SimpleType) (f : Lambda) → IsLiteral (scope_in setting s) (minus (every a f)) → list_any (same_row (record { type = a; predicate = f })) s.rows ≡ false → (let r : Row = record { type = a; predicate = f } in Worked setting (minus (every a f)) (with_new_witness setting a (witness_of s.rows r) (with_instance setting.mode (minus (every a f) ∷ []) (all_neg a f (witness_of s.rows r)) (record s { rows = s.rows ++ r ∷ [] }))))
+    new_witness : (a : SimpleType) (f : Lambda) → IsLiteral (scope_in setting s) (minus (every a f)) → list_any (same_row (record { type = a; predicate = f })) s.rows ≡ false → (let r : Row = record { type = a; predicate = f } in
+        let w = witness_of s.rows r in
+        let done = with_new_witness setting a w (with_instance setting.mode (minus (every a f) ∷ []) (all_neg a f w) (record s { rows = s.rows ++ r ∷ [] })) in
+        Worked setting (minus (every a f)) (with_terms setting.mode a (offered_witness setting.mode a w done) done))
     new_witness a f h e =
         let r : Row = record { type = a; predicate = f } in
         let more = s.rows ++ r ∷ [] in
@@ -86,15 +94,19 @@ module _ (setting : Setting) (over : IsScope setting.scope) where
         let g = with_instance-typed setting more (minus (every a f) ∷ []) (all_neg a f (constant (witness k))) wide
         (alternatives_typed (with_rows setting.scope more) good more refl (AllNeg 0) _ _ (all_neg_rule 0 k a f at) (h', tt))
         (state_wider setting s.rows (r ∷ []) s state.typed) in
+        let w = constant (witness k) in
+        let done = with_new_witness setting a w added in
+        let grown = pushed-typed setting more (map (λ p. grow p w) (filter (has_hole_of (target a)) added.parked)) added (growths more k r at good added g) g in
+        let C : Lambda → Type 0 = IsCanonical (with_rows setting.scope more) [] a in
         record {
           rows = more;
           table = table;
           literal = h';
-          typed = pushed-typed setting more (map (λ p. grow p (constant (witness k))) (filter (has_hole_of (target a)) added.parked)) added (growths more k r at good added g) g;
+          typed = with_terms-typed setting more a (offered_witness setting.mode a w done) done (pick_good (Each C) (takes_witness setting.mode a done) (eta a w ∷ []) [] (witness-typed setting more good k r at, tt) tt) grown;
         }
 
-    witnessed-typed : (a : SimpleType) (f : Lambda) → IsLiteral (scope_in setting s) (minus (every a f)) → Worked setting (minus (every a f)) (with_witness setting a f s)
-    witnessed-typed a f h = by_test (list_any (same_row r) s.rows) refl
+    denied-typed : (a : SimpleType) (f : Lambda) → IsLiteral (scope_in setting s) (minus (every a f)) → Worked setting (minus (every a f)) (with_denied setting a f s)
+    denied-typed a f h = by_test (list_any (same_row r) s.rows) refl
       where
         r : Row
         r = record { type = a; predicate = f }
@@ -102,7 +114,9 @@ module _ (setting : Setting) (over : IsScope setting.scope) where
         added : State → State
         added = with_instance setting.mode (minus (every a f) ∷ []) (all_neg a f (witness_of s.rows r))
 
-        by_test : (b : Bool) → list_any (same_row r) s.rows ≡ b → Worked setting (minus (every a f)) (if b then added s else with_new_witness setting a (witness_of s.rows r) (added (record s { rows = s.rows ++ r ∷ [] })))
+        by_test : (b : Bool) → list_any (same_row r) s.rows ≡ b
+            → (let done = (if b then added s else with_new_witness setting a (witness_of s.rows r) (added (record s { rows = s.rows ++ r ∷ [] }))) in
+            Worked setting (minus (every a f)) (if b then done else with_terms setting.mode a (offered_witness setting.mode a (witness_of s.rows r) done) done))
         by_test true e = same_rows s state (minus (every a f)) (added s) h (known_witness s state a f h e)
         by_test false e = new_witness a f h e
 
@@ -119,7 +133,7 @@ module _ (setting : Setting) (over : IsScope setting.scope) where
       (with_instance-typed setting s.rows (minus (eq a u v) ∷ []) [] s tt state.typed)
       (equated-typed setting s.rows (good s state) a false u v s h state.typed))
   worked-typed true (app (constant (all a)) f) s state h = same_rows s state (plus (every a f)) _ h (quantified-typed setting s.rows (good s state) a f s h state.typed)
-  worked-typed false (app (constant (all a)) f) s state h = witnessed-typed s state a f h
+  worked-typed false (app (constant (all a)) f) s state h = denied-typed s state a f h
   worked-typed sign t s state h = same_rows s state (record { positive = sign; atom = t }) _ h (mated-typed setting s.rows (good s state) (record { positive = sign; atom = t }) s h state.typed)
 
   branch_last : (scope : Scope) (ls : List Literal) (l : Literal) → IsBranch scope ls → IsLiteral scope l → IsBranch scope (ls ++ l ∷ [])

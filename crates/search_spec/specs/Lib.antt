@@ -30,6 +30,8 @@ pub mod Spine
 pub mod Alternatives
 pub mod Instances
 pub mod Terms
+pub mod Offers
+pub mod Preparing
 pub mod Partners
 pub mod Selections
 pub mod Witness

@@ -9,10 +9,12 @@ use Rattle.search_spec.specs.Spine.{head_of, arguments, is_spine, same_head}
 use Rattle.search_spec.specs.State.{State, Setting, inst, with_commands, scope_in}
 use Rattle.search_spec.specs.Alternatives.{imp_pos, imp_neg, bool_pos, bool_neg, fun_pos, fun_neg, differ}
 use Rattle.search_spec.specs.Instances.{with_instance}
-use Rattle.search_spec.specs.Terms.{terms_of, with_term, with_preparation}
+use Rattle.search_spec.specs.Terms.{terms_of, with_term, with_terms}
+use Rattle.search_spec.specs.Offers.{offered_sides}
+use Rattle.search_spec.specs.Preparing.{with_preparation}
 use Rattle.search_spec.specs.Partners.{matings, confrontations}
 use Rattle.search_spec.specs.Selections.{selections_in, with_selections}
-use Rattle.search_spec.specs.Witness.{with_witness}
+use Rattle.search_spec.specs.Witness.{with_denied}
 
 -- the negated equation between two terms with the same compared head is decomposed
 abbrev pub with_decomposition : Setting → SimpleType → Lambda → Lambda → State → State
@@ -29,7 +31,8 @@ abbrev pub with_equation : Setting → SimpleType → Bool → Lambda → Lambda
 with_equation setting (base zero) true s t = with_instance setting.mode (plus (eq formula s t) ∷ []) (bool_pos s t)
 with_equation setting (base zero) false s t = with_instance setting.mode (minus (eq formula s t) ∷ []) (bool_neg s t)
 with_equation setting (arrow a b) true s t = with_instance setting.mode (plus (eq (arrow a b) s t) ∷ []) (fun_pos a b s t)
-with_equation setting (arrow a b) false s t = with_instance setting.mode (minus (eq (arrow a b) s t) ∷ []) (fun_neg a b s t)
+with_equation setting (arrow a b) false s t =
+    λ state. with_instance setting.mode (minus (eq (arrow a b) s t) ∷ []) (fun_neg a b s t) (with_terms setting.mode (arrow a b) (offered_sides setting.mode s t) state)
 with_equation setting (base (suc n)) true s t = with_confrontations setting (base (suc n)) (plus (eq (base (suc n)) s t))
 with_equation setting (base (suc n)) false s t =
     λ state. with_confrontations setting (base (suc n)) (minus (eq (base (suc n)) s t))
@@ -56,7 +59,7 @@ with_rules setting true (app (app (constant (equality a)) s) t) state = with_equ
 with_rules setting false (app (app (constant (equality a)) s) t) state =
     if same_term s t then with_instance setting.mode (minus (eq a s t) ∷ []) [] state else with_equation setting a false s t state
 with_rules setting true (app (constant (all a)) f) state = with_universal setting a f state
-with_rules setting false (app (constant (all a)) f) state = with_witness setting a f state
+with_rules setting false (app (constant (all a)) f) state = with_denied setting a f state
 with_rules setting sign t state = with_matings setting (record { positive = sign; atom = t }) state
 
 -- The literal is processed: what its shape asks for is done, it is noted, and the choices and descriptions in its atom are taken up.

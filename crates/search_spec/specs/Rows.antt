@@ -22,6 +22,10 @@ one_setting names = record { scope = record { bases = 0; names = names; witnesse
 abbrev pub by_due : Setting → Setting
 by_due setting = record setting { mode = record standard_mode { clock = 1 } }
 
+-- the same, where witnesses and the sides of negated equations between functions are terms at once
+abbrev pub with_terms_offered : Setting → Setting
+with_terms_offered setting = record setting { mode = record standard_mode { terms = 1 } }
+
 abbrev pub commands : List (Entry Command) → List Command
 commands queue = map (λ q. q.command) queue
 
@@ -149,3 +153,19 @@ DueRuns =
     × (dues (trace (by_due all_setting) 8 (Some (starting_state (by_due all_setting) all_start))) ≡ (0, 0) ∷ (0, 1) ∷ (1, 2) ∷ (1, 3) ∷ (2, 4) ∷ (2, 6) ∷ (3, 5) ∷ (3, 7) ∷ [])
     × (dues (trace (by_due some_setting) 37 (Some (starting_state (by_due some_setting) (none_holds ∷ [])))) ≡ (0, 0) ∷ (4, 1) ∷ (4, 2) ∷ (4, 3) ∷ (4, 4) ∷ (4, 5) ∷ (4, 6) ∷ (5, 7) ∷ (5, 35) ∷ (8, 8) ∷ (8, 9) ∷ (8, 10) ∷ (8, 11) ∷ (8, 12) ∷ (8, 13) ∷ (8, 14) ∷ (8, 15) ∷ (8, 16) ∷ (8, 17) ∷ (8, 18) ∷ (8, 19) ∷ (8, 20) ∷ (8, 21) ∷ (8, 22) ∷ (8, 23) ∷ (8, 24) ∷ (8, 25) ∷ (8, 26) ∷ (8, 27) ∷ (8, 28) ∷ (8, 29) ∷ (8, 30) ∷ (8, 31) ∷ (8, 32) ∷ (8, 33) ∷ (8, 34) ∷ (9, 36) ∷ [])
     × (option_map (λ s. s.clauses) (state_after (by_due some_setting) (none_holds ∷ []) 37) ≡ Some ((none_holds ∷ []) ∷ (opposite none_holds ∷ minus (constant falsity) ∷ []) ∷ (opposite none_holds ∷ plus (constant falsity) ∷ []) ∷ []))
+
+-- p: $i > $o holds of something, all is c, and the conjecture is that p holds of c
+abbrev pub all_c : Literal
+all_c = plus (every i (lam i (eq i (bound 0) (named 1))))
+
+abbrev pub all_c_start : List Literal
+all_c_start = some_p ∷ all_c ∷ minus (p_at (named 1)) ∷ []
+
+-- the witness of what p holds of is a term before the type's first one, and the instance with it is made first
+abbrev pub OfferedRuns : Type 0
+OfferedRuns =
+    (commands (trace (with_terms_offered all_setting) 7 (Some (starting_state (with_terms_offered all_setting) all_c_start)))
+    ≡ process some_p ∷ process all_c ∷ process (minus (p_at (named 1))) ∷ process (plus (p_at (constant (witness 0)))) ∷ inst all_c (constant (witness 0)) ∷ inst all_c default ∷ mate (plus (p_at (constant (witness 0)))) (minus (p_at (named 1))) ∷ [])
+    × (dues (trace (with_terms_offered all_setting) 7 (Some (starting_state (with_terms_offered all_setting) all_c_start))) ≡ (0, 0) ∷ (0, 1) ∷ (0, 2) ∷ (1, 3) ∷ (3, 4) ∷ (3, 5) ∷ (5, 6) ∷ [])
+    × (commands (trace all_setting 6 (Some (starting_state all_setting all_c_start)))
+    ≡ process some_p ∷ process all_c ∷ process (minus (p_at (named 1))) ∷ process (plus (p_at (constant (witness 0)))) ∷ inst all_c default ∷ mate (plus (p_at (constant (witness 0)))) (minus (p_at (named 1))) ∷ [])

@@ -6,7 +6,7 @@ use Rattle.stt_core.specs.Lambda.{falsity, all, choice, Lambda, constant, lam, a
 use Rattle.stt_core.specs.SameTerm.{same_term}
 use Rattle.tableau_calculus.specs.Literals.{Literal}
 use Rattle.mode_file.specs.declared.Mode.{Mode}
-use Rattle.search_spec.specs.Partial.{first_hole, blank_partial}
+use Rattle.search_spec.specs.Partial.{first_hole}
 use Rattle.search_spec.specs.Heads.{heads_for}
 use Rattle.search_spec.specs.State.{State, Setting, Sketch, inst, grow, with_commands, scope_in}
 
@@ -43,11 +43,3 @@ abbrev pub first_terms : SimpleType → List Lambda
 first_terms (base zero) = constant falsity ∷ neg (constant falsity) ∷ []
 first_terms (base (suc n)) = app (constant (choice (base (suc n)))) (lam (base (suc n)) (constant falsity)) ∷ []
 first_terms (arrow a b) = []
-
--- A type is prepared: a base type gets its first terms, where it has none, and for a function type one hole under its binders is opened,
--- where none of its partial terms is parked.
-abbrev pub with_preparation : Setting → SimpleType → State → State
-with_preparation setting (base n) s = if list_any (λ u. same_type (base n) u.type) s.terms then s else with_terms setting.mode (base n) (first_terms (base n)) s
-with_preparation setting (arrow a b) s =
-    if list_any (λ p. same_type (arrow a b) p.type) s.parked then s
-    else with_opening setting (record { type = arrow a b; partial = blank_partial (arrow a b) }) s

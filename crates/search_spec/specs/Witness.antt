@@ -9,6 +9,8 @@ use Rattle.tableau_calculus.specs.Witnesses.{Row}
 use Rattle.search_spec.specs.Partial.{Hole, first_hole}
 use Rattle.search_spec.specs.State.{State, Setting, Sketch, grow, with_commands}
 use Rattle.search_spec.specs.Alternatives.{all_neg}
+use Rattle.search_spec.specs.Terms.{with_terms}
+use Rattle.search_spec.specs.Offers.{offered_witness}
 use Rattle.search_spec.specs.Instances.{with_instance}
 
 abbrev pub same_row : Row → Row → Bool
@@ -39,3 +41,11 @@ with_witness setting a f s =
     let added = with_instance setting.mode (minus (every a f) ∷ []) (all_neg a f w) in
     if list_any (same_row r) s.rows then added s
     else with_new_witness setting a w (added (record s { rows = s.rows ++ r ∷ [] }))
+
+-- What is done for the denial: the rule, and a new witness is a term afterwards where it is offered as one.
+abbrev pub with_denied : Setting → SimpleType → Lambda → State → State
+with_denied setting a f s =
+    let r : Row = record { type = a; predicate = f } in
+    let done = with_witness setting a f s in
+    if list_any (same_row r) s.rows then done
+    else with_terms setting.mode a (offered_witness setting.mode a (witness_of s.rows r) done) done

@@ -2,7 +2,7 @@
 use Rattle.std.proofs.Common.{◌≡◌, ◌≤◌, ◌&&◌, ℕ, zero, suc, Bool, true, false, List, [], ◌∷◌, ◌++◌, map, filter, Option, Some, None, refl, subst, if◌then◌else◌, arith}
 use Rattle.std.specs.List.{list_any, list_all, flat_map}
 use Rattle.std.proofs.lemmas.Bool.{and_parts, leb-true}
-use Rattle.stt_core.specs.SimpleType.{SimpleType, base, arrow, formula, same_type, target}
+use Rattle.stt_core.specs.SimpleType.{SimpleType, base, arrow, formula, target}
 use Rattle.stt_core.specs.Lambda.{name, witness, falsity, negation, implication, all, equality, choice, description, Lambda, bound, constant, lam, app, imp, eq, every}
 use Rattle.stt_core.specs.Depth.{depth}
 use Rattle.stt_core.specs.Typing.{type_of}
@@ -23,10 +23,12 @@ use Rattle.search_spec.specs.State.{State, Setting, Typed, Sketch, Command, proc
 use Rattle.search_spec.specs.Spine.{head_of, arguments, is_spine, same_head}
 use Rattle.search_spec.specs.Alternatives.{Alternatives, imp_pos, imp_neg, bool_pos, bool_neg, fun_pos, fun_neg, all_pos, all_neg, differ, con, cho, des}
 use Rattle.search_spec.specs.Instances.{with_literal, with_literals, with_instance}
-use Rattle.search_spec.specs.Terms.{terms_of, ranges_over, universals, with_term, with_terms, first_terms, with_opening, with_preparation}
+use Rattle.search_spec.specs.Terms.{terms_of, ranges_over, universals, with_term, with_terms, first_terms, with_opening}
+use Rattle.search_spec.specs.Offers.{is_prepared, early_terms, offered_witness, offered_sides}
+use Rattle.search_spec.specs.Preparing.{with_beginning, with_preparation}
 use Rattle.search_spec.specs.Partners.{partners, positive_first, matings, confrontations}
 use Rattle.search_spec.specs.Selections.{Selection, by_choice, by_description, selection_by, selections_in, with_selection, with_selections}
-use Rattle.search_spec.specs.Witness.{same_row, witness_of, has_hole_of, with_new_witness, with_witness}
+use Rattle.search_spec.specs.Witness.{same_row, witness_of, has_hole_of, with_new_witness, with_witness, with_denied}
 use Rattle.search_spec.specs.Processing.{with_decomposition, with_confrontations, with_equation, with_universal, with_matings, with_rules, with_processing}
 use Rattle.search_spec.specs.Commands.{with_confrontation, with_instantiation, with_growth, growth_by, with_command}
 use Rattle.search_spec.specs.After.{nothing_yet, starting_state, with_taken, after_command, next_state, state_after}
@@ -152,12 +154,15 @@ module _ (setting : Setting) where
       let heads = heads_for (scope_in setting s) (first_hole [] p.partial) in
       pushed-flat (map (grow p) heads) (record s { parked = s.parked ++ p ∷ [] }) (all_mapped IsFlatCommand (grow p) (λ h. tt) heads) (record { clauses = g.clauses; noted = g.noted; rows = g.rows; queue = g.queue })
 
+  begun-flat : (a : SimpleType) (s : State) → Is s → Is (with_beginning setting a s)
+  begun-flat (base n) s g = with_terms-flat (base n) (first_terms (base n)) s g
+  begun-flat (arrow a b) s g = opened-flat (record { type = arrow a b; partial = blank_partial (arrow a b) }) s g
+
   prepared-flat : (a : SimpleType) (s : State) → Is s → Is (with_preparation setting a s)
-  prepared-flat (base n) s g =
-      pick_good Is (list_any (λ u. same_type (base n) u.type) s.terms) s (with_terms setting.mode (base n) (first_terms (base n)) s) g (with_terms-flat (base n) (first_terms (base n)) s g)
-  prepared-flat (arrow a b) s g =
-      let p : Sketch = record { type = arrow a b; partial = blank_partial (arrow a b) } in
-      pick_good Is (list_any (λ q. same_type (arrow a b) q.type) s.parked) s (with_opening setting p s) g (opened-flat p s g)
+  prepared-flat a s g =
+      let us = early_terms setting.mode a s in
+      let more = with_terms setting.mode a us s in
+      pick_good Is (is_prepared setting.mode a s) s (with_beginning setting a more) g (begun-flat a more (with_terms-flat a us s g))
 
   grown-flat : (q : Sketch) (o : Option Lambda) (s : State) → Is s → Is (with_growth setting q o s)
   grown-flat q (Some u) s g = with_term-flat q.type u s g
@@ -193,7 +198,9 @@ module _ (setting : Setting) where
   equated-flat (base zero) true s t st h g = with_instance-flat (plus (eq formula s t) ∷ []) (bool_pos s t) st (h, tt) g
   equated-flat (base zero) false s t st h g = with_instance-flat (minus (eq formula s t) ∷ []) (bool_neg s t) st (h, tt) g
   equated-flat (arrow a b) true s t st h g = with_instance-flat (plus (eq (arrow a b) s t) ∷ []) (fun_pos a b s t) st (h, tt) g
-  equated-flat (arrow a b) false s t st h g = with_instance-flat (minus (eq (arrow a b) s t) ∷ []) (fun_neg a b s t) st (h, tt) g
+  equated-flat (arrow a b) false s t st h g =
+      let us = offered_sides setting.mode s t in
+      with_instance-flat (minus (eq (arrow a b) s t) ∷ []) (fun_neg a b s t) (with_terms setting.mode (arrow a b) us st) (h, tt) (with_terms-flat (arrow a b) us st g)
   equated-flat (base (suc n)) true s t st h g = confronted-flat (base (suc n)) (plus (eq (base (suc n)) s t)) st h g
   equated-flat (base (suc n)) false s t st h g =
       let b = base (suc n) in
@@ -238,6 +245,14 @@ module _ (setting : Setting) where
           pushed-flat (map (λ p. grow p (witness_of s.rows r)) (filter (has_hole_of (target a)) st.parked)) st
           (all_mapped IsFlatCommand (λ p. grow p (witness_of s.rows r)) (λ p. tt) (filter (has_hole_of (target a)) st.parked)) k
 
+  denied-flat : (a : SimpleType) (f : Lambda) (s : State) → depth (every a f) ≤ 4096 → Is s → Is (with_denied setting a f s)
+  denied-flat a f s h g =
+      let r : Row = record { type = a; predicate = f } in
+      let done = with_witness setting a f s in
+      let us = offered_witness setting.mode a (witness_of s.rows r) done in
+      let k = witnessed-flat a f s h g in
+      pick_good Is (list_any (same_row r) s.rows) done (with_terms setting.mode a us done) k (with_terms-flat a us done k)
+
   worked-flat : (sign : Bool) (t : Lambda) (s : State) → depth t ≤ 4096 → Is s → Is (with_rules setting sign t s)
   worked-flat true (constant falsity) s h g = with_instance-flat (plus (constant falsity) ∷ []) [] s (h, tt) g
   worked-flat true (app (app (constant implication) u) v) s h g = with_instance-flat (plus (imp u v) ∷ []) (imp_pos u v) s (h, tt) g
@@ -246,7 +261,7 @@ module _ (setting : Setting) where
   worked-flat false (app (app (constant (equality a)) u) v) s h g =
       pick_good Is (same_term u v) (with_instance setting.mode (minus (eq a u v) ∷ []) [] s) (with_equation setting a false u v s) (with_instance-flat (minus (eq a u v) ∷ []) [] s (h, tt) g) (equated-flat a false u v s h g)
   worked-flat true (app (constant (all a)) f) s h g = quantified-flat a f s h g
-  worked-flat false (app (constant (all a)) f) s h g = witnessed-flat a f s h g
+  worked-flat false (app (constant (all a)) f) s h g = denied-flat a f s h g
   worked-flat sign t s h g = mated-flat (record { positive = sign; atom = t }) s h g
 
   processed-flat : (l : Literal) (s : State) → IsFlat l → Is s → Is (with_processing setting l s)

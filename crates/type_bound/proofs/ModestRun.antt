@@ -1,11 +1,12 @@
 -- Every state of a run is modest.
 use Rattle.std.proofs.Common.{◌≡◌, ◌≤◌, ◌&&◌, ℕ, zero, suc, Bool, true, false, List, [], ◌∷◌, ◌++◌, map, filter, Option, Some, None, refl, subst, if◌then◌else◌}
-use Rattle.std.specs.List.{list_any}
+use Rattle.std.specs.List.{list_any, position_or_len}
 use Rattle.std.proofs.lemmas.Bool.{and_parts}
 use Rattle.stt_core.specs.SimpleType.{SimpleType, base, arrow, formula, target}
 use Rattle.stt_core.specs.Lambda.{falsity, implication, all, equality, Lambda, constant, app, imp, eq, every}
 use Rattle.stt_core.specs.Typing.{type_of}
 use Rattle.stt_core.specs.SameTerm.{same_term}
+use Rattle.normal_forms.specs.Normal.{eta}
 use Rattle.tableau_calculus.specs.Literals.{Literal, plus, minus}
 use Rattle.tableau_calculus.specs.Witnesses.{Row}
 use Rattle.search_spec.specs.Each.{Each}
@@ -17,10 +18,12 @@ use Rattle.search_spec.specs.State.{State, Setting, Sketch, Command, process, ma
 use Rattle.search_spec.specs.Spine.{head_of, arguments, is_spine, same_head}
 use Rattle.search_spec.specs.Alternatives.{imp_pos, imp_neg, bool_pos, bool_neg, fun_pos, fun_neg, all_pos, all_neg, differ, con, cho, des}
 use Rattle.search_spec.specs.Instances.{with_instance}
-use Rattle.search_spec.specs.Terms.{terms_of, with_term, with_preparation}
+use Rattle.search_spec.specs.Terms.{terms_of, with_term, with_terms}
+use Rattle.search_spec.specs.Offers.{offers_terms, takes_witness, offered_witness, offered_sides}
+use Rattle.search_spec.specs.Preparing.{with_preparation}
 use Rattle.search_spec.specs.Partners.{matings, confrontations}
 use Rattle.search_spec.specs.Selections.{selections_in}
-use Rattle.search_spec.specs.Witness.{same_row, witness_of, has_hole_of, with_new_witness, with_witness}
+use Rattle.search_spec.specs.Witness.{same_row, witness_of, has_hole_of, with_new_witness, with_witness, with_denied}
 use Rattle.search_spec.specs.Processing.{with_decomposition, with_confrontations, with_equation, with_universal, with_matings, with_rules, with_processing}
 use Rattle.search_spec.specs.Commands.{with_mating, with_confrontation, with_instantiation, with_command}
 use Rattle.search_spec.specs.After.{nothing_yet, starting_state, with_taken, after_command, next_state, state_after}
@@ -29,7 +32,7 @@ use Rattle.search_spec.proofs.TypedPushes.{each_filtered, each_mapped}
 use Rattle.refute_print.specs.Sizes.{nesting}
 use Rattle.type_bound.specs.Modest.{IsModest, IsModestLiteral, IsModestPartial, IsModestRow, IsModestCommand, IsModestState, IsModestSetting}
 use Rattle.type_bound.proofs.ModestTerms.{head_of_keeps, arguments_keep, head_shallow, imp_pos_keeps, imp_neg_keeps, bool_pos_keeps, bool_neg_keeps, fun_pos_keeps, fun_neg_keeps, all_pos_keeps, all_neg_keeps, differ_keeps, con_keeps, cho_keeps, des_keeps}
-use Rattle.type_bound.proofs.ModestSteps.{pushed-modest, with_instance-modest, with_term-modest, terms_of-modest, prepared-modest, witnesses-modest, grow-modest, matings-modest, confrontations-modest, selections-modest, with_selections-modest}
+use Rattle.type_bound.proofs.ModestSteps.{pushed-modest, with_instance-modest, with_term-modest, with_terms-modest, terms_of-modest, witness-modest, prepared-modest, witnesses-modest, grow-modest, matings-modest, confrontations-modest, selections-modest, with_selections-modest}
 
 first_good : (P : Entry Command → Type 0) (q : Entry Command) (qs : List (Entry Command)) → P q → Each P qs → P (first_waiting q qs)
 first_good P q [] h k = h
@@ -68,7 +71,10 @@ module _ (limit : ℕ) (setting : Setting) (good : IsModestSetting limit setting
   equated-modest (base zero) true s t st w h k g = with_instance-modest limit setting (plus (eq formula s t) ∷ []) (bool_pos s t) st (((w, h), k), tt) (bool_pos_keeps limit s t h k) g
   equated-modest (base zero) false s t st w h k g = with_instance-modest limit setting (minus (eq formula s t) ∷ []) (bool_neg s t) st (((w, h), k), tt) (bool_neg_keeps limit s t h k) g
   equated-modest (arrow a b) true s t st w h k g = with_instance-modest limit setting (plus (eq (arrow a b) s t) ∷ []) (fun_pos a b s t) st (((w, h), k), tt) (fun_pos_keeps limit a b s t w h k) g
-  equated-modest (arrow a b) false s t st w h k g = with_instance-modest limit setting (minus (eq (arrow a b) s t) ∷ []) (fun_neg a b s t) st (((w, h), k), tt) (fun_neg_keeps limit a b s t w h k) g
+  equated-modest (arrow a b) false s t st w h k g =
+      let us = offered_sides setting.mode s t in
+      with_instance-modest limit setting (minus (eq (arrow a b) s t) ∷ []) (fun_neg a b s t) (with_terms setting.mode (arrow a b) us st) (((w, h), k), tt) (fun_neg_keeps limit a b s t w h k)
+      (with_terms-modest limit setting (arrow a b) us st (pick_good (Each (IsModest limit)) (offers_terms setting.mode) (s ∷ t ∷ []) [] (h, (k, tt)) tt) g)
   equated-modest (base (suc n)) true s t st w h k g = confronted-modest (base (suc n)) (plus (eq (base (suc n)) s t)) st ((w, h), k) g
   equated-modest (base (suc n)) false s t st w h k g =
       let b = base (suc n) in
@@ -117,6 +123,16 @@ module _ (limit : ℕ) (setting : Setting) (good : IsModestSetting limit setting
           (each_mapped (λ (p : Sketch). IsModestPartial limit p.partial) (IsModestCommand limit) (λ p. grow p (witness_of s.rows r)) (λ p m. (m, (tt, tt))) (filter (has_hole_of (target a)) st.parked)
           (each_filtered (λ (p : Sketch). IsModestPartial limit p.partial) (λ p. IsModestPartial limit p.partial) (has_hole_of (target a)) (λ p m e. m) st.parked k.parked)) k
 
+  denied-modest : (a : SimpleType) (f : Lambda) (s : State) → nesting a ≤ limit → IsModest limit f → Is s → Is (with_denied setting a f s)
+  denied-modest a f s w h g =
+      let r : Row = record { type = a; predicate = f } in
+      let done = with_witness setting a f s in
+      let k = witnessed-modest a f s w h g in
+      let u = eta a (witness_of s.rows r) in
+      pick_good Is (list_any (same_row r) s.rows) done (with_terms setting.mode a (offered_witness setting.mode a (witness_of s.rows r) done) done) k
+      (with_terms-modest limit setting a (offered_witness setting.mode a (witness_of s.rows r) done) done
+      (pick_good (Each (IsModest limit)) (takes_witness setting.mode a done) (u ∷ []) [] (witness-modest limit setting good a (position_or_len (same_row r) s.rows) w, tt) tt) k)
+
   worked-modest : (sign : Bool) (t : Lambda) (s : State) → IsModest limit t → Is s → Is (with_rules setting sign t s)
   worked-modest true (constant falsity) s h g = with_instance-modest limit setting (plus (constant falsity) ∷ []) [] s (tt, tt) tt g
   worked-modest true (app (app (constant implication) u) v) s h g =
@@ -128,7 +144,7 @@ module _ (limit : ℕ) (setting : Setting) (good : IsModestSetting limit setting
       pick_good Is (same_term u v) (with_instance setting.mode (minus (eq a u v) ∷ []) [] s) (with_equation setting a false u v s)
       (with_instance-modest limit setting (minus (eq a u v) ∷ []) [] s (h, tt) tt g) (equated-modest a false u v s h.0.0 h.0.1 h.1 g)
   worked-modest true (app (constant (all a)) f) s h g = quantified-modest a f s h.0 h.1 g
-  worked-modest false (app (constant (all a)) f) s h g = witnessed-modest a f s h.0 h.1 g
+  worked-modest false (app (constant (all a)) f) s h g = denied-modest a f s h.0 h.1 g
   worked-modest sign t s h g = mated-modest (record { positive = sign; atom = t }) s h g
 
   processed-modest : (l : Literal) (s : State) → Lit l → Is s → Is (with_processing setting l s)

@@ -9,6 +9,7 @@ use Rattle.stt_core.specs.Typing.{Scope, type_of}
 use Rattle.stt_core.specs.SameTerm.{same_term}
 use Rattle.search_spec.specs.Closed.{is_closed}
 use Rattle.stt_core.proofs.SameTerms.{same_term-true}
+use Rattle.normal_forms.specs.Normal.{eta}
 use Rattle.tableau_calculus.specs.Literals.{Literal}
 use Rattle.tableau_calculus.specs.Kinds.{has, formulas}
 use Rattle.tableau_calculus.specs.Witnesses.{Row}
@@ -22,7 +23,9 @@ use Rattle.search_spec.specs.Alternatives.{Alternatives}
 use Rattle.search_spec.specs.Instances.{with_literal, with_literals, with_instance}
 use Rattle.search_spec.specs.Heads.{places_to, bases_from, logical_heads, heads_for}
 use Rattle.search_spec.specs.Partial.{Partial, hole, head, function, application, Hole, or_else, first_hole, in_first, with_filling, whole_term, blank_partial, with_holes}
-use Rattle.search_spec.specs.Terms.{terms_of, ranges_over, universals, with_term, with_terms, first_terms, with_opening, with_preparation}
+use Rattle.search_spec.specs.Terms.{terms_of, ranges_over, universals, with_term, with_terms, first_terms, with_opening}
+use Rattle.search_spec.specs.Offers.{offers_terms, is_prepared, witness_terms, early_terms}
+use Rattle.search_spec.specs.Preparing.{with_beginning, with_preparation}
 use Rattle.search_spec.specs.Partners.{partners, positive_first, matings, confrontations}
 use Rattle.search_spec.specs.Selections.{Selection, by_choice, by_description, selection_by, selections_in, with_selection, with_selections}
 use Rattle.search_spec.specs.Commands.{with_growth, filling_at, growth_by}
@@ -31,7 +34,7 @@ use Rattle.search_spec.proofs.TypedPushes.{each_filtered, each_mapped}
 use Rattle.type_bound.specs.Types.{IsShallowType}
 use Rattle.refute_print.specs.Sizes.{nesting}
 use Rattle.type_bound.specs.Modest.{IsModest, IsModestLiteral, IsModestPartial, IsModestRow, IsModestCommand, IsModestState, IsModestSetting}
-use Rattle.type_bound.proofs.ModestTerms.{leaf_shallow}
+use Rattle.type_bound.proofs.ModestTerms.{leaf_shallow, eta_keeps}
 
 each_waiting : (P : Command → Type 0) (d : Command → ℕ) (n : ℕ) (cs : List Command) → Each P cs → Each (λ q. P q.command) (new_entries d n cs)
 each_waiting P d n [] h = tt
@@ -102,7 +105,7 @@ module _ (limit : ℕ) (setting : Setting) where
       (pushed-modest (map (λ l. inst l u) (universals a s)) (record s { terms = more }) (instances-modest a u s h g)
       (record { clauses = g.clauses; noted = g.noted; terms = each-joined _ s.terms (record { type = a; term = u } ∷ []) g.terms (h, tt); rows = g.rows; parked = g.parked; queue = g.queue }))
 
-  with_terms-modest : (a : SimpleType) (us : List Lambda) (s : State) → Each (IsModest limit) us → Good s → Good (with_terms setting.mode a us s)
+  pub with_terms-modest : (a : SimpleType) (us : List Lambda) (s : State) → Each (IsModest limit) us → Good s → Good (with_terms setting.mode a us s)
   with_terms-modest a [] s h g = g
   with_terms-modest a (u ∷ us) s h g = with_terms-modest a us (with_term setting.mode a u s) h.1 (with_term-modest a u s h.0 g)
 
@@ -228,15 +231,28 @@ module _ (limit : ℕ) (setting : Setting) where
         (each_mapped IsHead (IsModestCommand limit) (grow p) (λ t k. (h, k)) heads (heads-modest (scope_in setting s) (first_hole [] p.partial)))
         (record { clauses = g.clauses; noted = g.noted; terms = g.terms; rows = g.rows; parked = each-joined _ s.parked (p ∷ []) g.parked (h, tt); queue = g.queue })
 
-    pub prepared-modest : (a : SimpleType) (s : State) → nesting a ≤ limit → Good s → Good (with_preparation setting a s)
-    prepared-modest (base n) s h g =
-        pick_good Good (list_any (λ u. same_type (base n) u.type) s.terms) s (with_terms setting.mode (base n) (first_terms (base n)) s) g
-        (with_terms-modest (base n) (first_terms (base n)) s (first_terms-modest (base n)) g)
-    prepared-modest (arrow a b) s h g =
-        let p : Sketch = record { type = arrow a b; partial = blank_partial (arrow a b) } in
+    begun-modest : (a : SimpleType) (s : State) → nesting a ≤ limit → Good s → Good (with_beginning setting a s)
+    begun-modest (base n) s h g = with_terms-modest (base n) (first_terms (base n)) s (first_terms-modest (base n)) g
+    begun-modest (arrow a b) s h g =
         let wide : nesting (arrow a b) ≤ suc (suc limit) = omega (arith, h) in
-        pick_good Good (list_any (λ q. same_type (arrow a b) q.type) s.parked) s (with_opening setting p s) g
-        (opened-modest p s (blank-modest (arrow a b) wide) g)
+        opened-modest (record { type = arrow a b; partial = blank_partial (arrow a b) }) s (blank-modest (arrow a b) wide) g
+
+    pub witness-modest : (a : SimpleType) (k : ℕ) → nesting a ≤ limit → IsModest limit (eta a (constant (witness k)))
+    witness-modest a k h = eta_keeps limit a (constant (witness k)) (omega (arith, h)) tt
+
+    witness_terms-modest : (a : SimpleType) (k : ℕ) (rows : List Row) → nesting a ≤ limit → Each (IsModest limit) (witness_terms a k rows)
+    witness_terms-modest a k [] h = tt
+    witness_terms-modest a k (r ∷ rows) h =
+        pick_good (Each (IsModest limit)) (same_type a r.type) (eta a (constant (witness k)) ∷ witness_terms a (suc k) rows) (witness_terms a (suc k) rows)
+        (witness-modest a k h, witness_terms-modest a (suc k) rows h) (witness_terms-modest a (suc k) rows h)
+
+    pub prepared-modest : (a : SimpleType) (s : State) → nesting a ≤ limit → Good s → Good (with_preparation setting a s)
+    prepared-modest a s h g =
+        let us = early_terms setting.mode a s in
+        let more = with_terms setting.mode a us s in
+        pick_good Good (is_prepared setting.mode a s) s (with_beginning setting a more) g
+        (begun-modest a more h
+        (with_terms-modest a us s (pick_good (Each (IsModest limit)) (offers_terms setting.mode) (witness_terms a 0 s.rows) [] (witness_terms-modest a 0 s.rows h) tt) g))
 
     row_types : (rows : List Row) → Each (IsModestRow limit) rows → Each (λ a. nesting a ≤ limit) (map (λ (r : Row). r.type) rows)
     row_types [] h = tt

@@ -1,7 +1,7 @@
 -- What the work on a literal depends on, and what its rules take.
-use Rattle.std.specs.Prelude.{zero, suc, Bool, not, ◌&&◌, Some, None}
+use Rattle.std.specs.Prelude.{◌≡◌, zero, suc, Bool, not, ◌&&◌, Some, None}
 use Rattle.stt_core.specs.SimpleType.{SimpleType, base, arrow}
-use Rattle.stt_core.specs.Lambda.{falsity, implication, all, equality, Lambda, constant, app}
+use Rattle.stt_core.specs.Lambda.{falsity, implication, all, equality, Lambda, constant, app, eq}
 use Rattle.tableau_calculus.specs.Literals.{Literal}
 use Rattle.sat_base.specs.declared.literal.SatLit.{SatLit}
 use Rattle.search_spec.specs.Partners.{has_equal_sides}
@@ -22,6 +22,13 @@ shape_of (app (app (constant implication) s) t) = Implication
 shape_of (app (app (constant (equality a)) s) t) = equation_shape a
 shape_of (app (constant (all a)) f) = Quantified
 shape_of t = Other
+
+-- the formula is an equation
+pub record IsEquated (t : Lambda) : Type 0 where
+  pub type : SimpleType
+  pub left : Lambda
+  pub right : Lambda
+  pub is : t ≡ eq type left right
 
 -- whether the literal denies that a term equals itself
 abbrev pub denies_itself : Literal → Bool

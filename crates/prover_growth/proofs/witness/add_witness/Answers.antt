@@ -111,3 +111,11 @@ returns-clause-steps g c =
     let S : Table → Type 0 = λ x. StepsGrow (IsMadeInstance t1.basis) x t2.steps in
     subst (λ (x : Tables). StepsGrow (IsMadeInstance x.basis) t.steps x.steps) (sym c.grow_with.ensures.tables)
     (subst (λ (h : Basis). StepsGrow (IsMadeInstance h) t.steps t2.steps) (sym (ap (λ (x : Tables). x.basis) c.in_ok-add_instance.ensures.tables)) (subst S from made))
+
+pub returns-then-len-before-clause-rows : goal.returns-then-len-before-clause-rows
+returns-then-len-before-clause-rows g c = λ a f denies.
+    ap (λ (x : Tables). rows_in x.basis) c.in_ok-add_instance.ensures.tables ∙ c.in_ok-instance.ensures.rows a f denies
+
+pub returns-clause-rows : goal.returns-clause-rows
+returns-clause-rows g c = λ a f denies.
+    ap (λ (x : Tables). rows_in x.basis) c.grow_with.ensures.tables ∙ ap (λ (x : Tables). rows_in x.basis) c.in_ok-add_instance.ensures.tables ∙ c.in_ok-instance.ensures.rows a f denies

@@ -9,12 +9,12 @@ use Rattle.prover_state.specs.declared.tables.Tables.{Tables}
 use Rattle.prover_state.specs.Internal.Names.{IsNumberIn, IsPlace}
 use Rattle.prover_search.proofs.DevelopLaws.{develops-same, develops-then}
 use Rattle.prover_search.proofs.MadeStays.{number-wider}
-use Rattle.prover_search.proofs.ShapedLaws.{base-equation, base-sides}
+use Rattle.prover_search.proofs.ShapedLaws.{base-equation, base-equated, base-sides}
 use Rattle.prover_search.proofs.WorkLaws.{literal-is, difference-is, difference-equation}
 use Rattle.prover_search.proofs.equation.work_on_difference.Goals as goal
 
 pub sides_of-sides-requires-clause-equation : goal.sides_of-sides-requires-clause-equation
-sides_of-sides-requires-clause-equation g c = let basis = c.args.core.now.tables.basis in base-equation (bank_literal basis.bank.terms basis.lits c.args.lit).atom c.args.n c.requires.shape
+sides_of-sides-requires-clause-equation g c = let basis = c.args.core.now.tables.basis in base-equated (bank_literal basis.bank.terms basis.lits c.args.lit).atom c.args.n c.requires.shape
 
 pub decompose-requires-clause-number : goal.decompose-requires-clause-number
 decompose-requires-clause-number g c =

@@ -6,7 +6,7 @@ use Rattle.stt_core.specs.Canonical.{IsCanonical}
 use Rattle.tableau_calculus.specs.Literals.{Literal}
 use Rattle.tableau_calculus.proofs.FunctionLaws.{every_canonical}
 use Rattle.literal_map.specs.Atoms.{bank_literal}
-use Rattle.search_spec.specs.Terms.{with_preparation}
+use Rattle.search_spec.specs.Preparing.{with_preparation}
 use Rattle.prover_state.specs.declared.tables.Tables.{Tables}
 use Rattle.prover_state.specs.Internal.Pending.{range_of}
 use Rattle.prover_state.specs.Internal.Standing.{scope_by, setting_by, the_state}

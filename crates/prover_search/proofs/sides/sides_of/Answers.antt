@@ -2,7 +2,7 @@ use Rattle.std.proofs.Common.{sym, ap, ◌∙◌, length, slice_get, arith}
 use Rattle.literal_map.specs.Atoms.{bank_atom}
 use Rattle.prover_state.specs.Internal.Selecting.{term_parts}
 use Rattle.prover_search.proofs.ShapedLaws.{sides-are, two-parts}
-use Rattle.prover_search.proofs.equation.sides_of.Goals as goal
+use Rattle.prover_search.proofs.sides.sides_of.Goals as goal
 
 pub part_of-requires-clause-within : goal.part_of-requires-clause-within
 part_of-requires-clause-within c =
