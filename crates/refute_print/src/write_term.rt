@@ -81,18 +81,17 @@ fn write_head<S: Sink>(sink: &mut S, sig: &Signature, head: &Head) -> Result<(),
         (term_text (named_term (names_of sig.now.bases sig.now.consts) (the_head head.now)))) }
 {
     match head {
-        Head::Bound(k) => write_numbered(sink, b"#", *k as usize, b"")?,
-        Head::Name(k) => write_name(sink, sig.consts.name_at(*k as usize))?,
-        Head::Wit(k) => write_numbered(sink, b"$w", *k as usize, b"")?,
-        Head::False => write(sink, b"$f")?,
-        Head::Not => write(sink, b"$not")?,
-        Head::Imp => write(sink, b"$imp")?,
-        Head::All(a) => write_around_type(sink, sig, b"$all[", a, b"]")?,
-        Head::Eq(a) => write_around_type(sink, sig, b"$eq[", a, b"]")?,
-        Head::Choice(a) => write_around_type(sink, sig, b"$eps[", a, b"]")?,
-        Head::Desc(a) => write_around_type(sink, sig, b"$the[", a, b"]")?,
+        Head::Bound(k) => write_numbered(sink, b"#", *k as usize, b""),
+        Head::Name(k) => write_name(sink, sig.consts.name_at(*k as usize)),
+        Head::Wit(k) => write_numbered(sink, b"$w", *k as usize, b""),
+        Head::False => write(sink, b"$f"),
+        Head::Not => write(sink, b"$not"),
+        Head::Imp => write(sink, b"$imp"),
+        Head::All(a) => write_around_type(sink, sig, b"$all[", a, b"]"),
+        Head::Eq(a) => write_around_type(sink, sig, b"$eq[", a, b"]"),
+        Head::Choice(a) => write_around_type(sink, sig, b"$eps[", a, b"]"),
+        Head::Desc(a) => write_around_type(sink, sig, b"$the[", a, b"]"),
     }
-    Ok(())
 }
 
 /// Writes a parenthesis and a head, in one piece where the head is a connective.

@@ -7,10 +7,11 @@ ghost use Rattle.stt_core.specs.SimpleType.{SimpleType, arrow};
 ghost use Rattle.stt_core.specs.Typing.{type_of};
 ghost use Rattle.stt_core.specs.View.{the_head, the_type};
 ghost use Rattle.term_bank.specs.Content.{content_scope, HasTerm, Grows};
-ghost use Rattle.term_bank.specs.Terms.{term_at, IsTypedTerm};
+ghost use Rattle.term_bank.specs.NodeView.{the_shape};
+ghost use Rattle.term_bank.specs.Terms.{term_at, shape_term, IsBelow, IsTypedTerm};
 
 use crate::bank::Bank;
-use crate::node::{Id, Ids, Node};
+use crate::node::{Id, Node};
 use std::alloc::AllocError;
 use stt_core::{Context, Declared, Head, Ty, head_type};
 
@@ -45,19 +46,8 @@ impl Bank {
         ensures grows { Grows self.old self.new }
         ensures err { OnErr result (self.new ≡ self.old) }
     {
-        let node = Node::Lam {
-            ty: ty.try_clone(self.alloc)?,
-            body,
-        };
-        match self.nodes.get_index_of(&node) {
-            Some(place) => Ok(number_of(place)?),
-            None => {
-                let marks = self.lam_marks(body)?;
-                let id = number_of(self.nodes.len())?;
-                self.nodes.insert(node, marks)?;
-                Ok(id)
-            }
-        }
+        let node = Node::lam(self.alloc, ty, body)?;
+        self.intern(node)
     }
 
     /// The number of the head with all its arguments.
@@ -69,15 +59,23 @@ impl Bank {
         ensures grows { Grows self.old self.new }
         ensures err { OnErr result (self.new ≡ self.old) }
     {
-        let node = Node::App {
-            head: head.try_clone(self.alloc)?,
-            args: Ids::from_slice(self.alloc, args)?,
-        };
+        let node = Node::app(self.alloc, head, args)?;
+        self.intern(node)
+    }
+
+    /// The number of the term of a node, which is added where it isn't there.
+    fn intern(&mut self, node: Node) -> Result<Id, AllocError>
+        requires below { IsBelow (length self.old.terms) (the_shape node) }
+        requires typed { IsTypedTerm (content_scope self.old) (shape_term self.old.terms (the_shape node)) }
+        ensures term { IfOk result (λ id. HasTerm self.new id (shape_term self.old.terms (the_shape node))) }
+        ensures grows { Grows self.old self.new }
+        ensures err { OnErr result (self.new ≡ self.old) }
+    {
         match self.nodes.get_index_of(&node) {
             Some(place) => Ok(number_of(place)?),
             None => {
-                let marks = self.app_marks(head, args)?;
                 let id = number_of(self.nodes.len())?;
+                let marks = self.node_marks(&node)?;
                 self.nodes.insert(node, marks)?;
                 Ok(id)
             }

@@ -8,17 +8,18 @@ ghost use Rattle.stt_core.specs.SimpleType.{SimpleType};
 ghost use Rattle.stt_core.specs.View.{the_head};
 ghost use Rattle.term_bank.specs.Internal.Marks.{greatest_witness};
 ghost use Rattle.term_bank.specs.Internal.MarksView.{AreMarksOf};
-ghost use Rattle.term_bank.specs.Terms.{term_at};
+ghost use Rattle.term_bank.specs.NodeView.{the_shape};
+ghost use Rattle.term_bank.specs.Terms.{term_at, shape_term, IsBelow};
 
 use crate::bank::Bank;
 use crate::marks::{Marks, after, greater_of, missing_at, witness_at};
-use crate::node::Id;
+use crate::node::{Id, Node};
 use std::alloc::AllocError;
 use stt_core::Head;
 
 impl Bank {
     /// The marks of a function.
-    pub(crate) fn lam_marks(&self, body: Id) -> Result<Marks, AllocError>
+    fn lam_marks(&self, body: Id) -> Result<Marks, AllocError>
         requires { body < length self.now.terms }
         ensures { (a : SimpleType) → IfOk result (AreMarksOf (lam a (term_at self.now.terms body))) }
     {
@@ -46,7 +47,7 @@ impl Bank {
     }
 
     /// The marks of a head with its arguments.
-    pub(crate) fn app_marks(&self, head: &Head, args: &[Id]) -> Result<Marks, AllocError>
+    fn app_marks(&self, head: &Head, args: &[Id]) -> Result<Marks, AllocError>
         requires { All (λ i. i < length self.now.terms) args.now }
         ensures { IfOk result (AreMarksOf (applied (the_head head.now) (map (term_at self.now.terms) args.now))) }
     {
@@ -64,5 +65,16 @@ impl Bank {
             };
         }
         Ok(marks)
+    }
+
+    /// The marks of the term of a node.
+    pub(crate) fn node_marks(&self, node: &Node) -> Result<Marks, AllocError>
+        requires { IsBelow (length self.now.terms) (the_shape node.now) }
+        ensures { IfOk result (AreMarksOf (shape_term self.now.terms (the_shape node.now))) }
+    {
+        match node {
+            Node::Lam { ty: _, body } => self.lam_marks(*body),
+            Node::App { head, args } => self.app_marks(head, args.as_slice()),
+        }
     }
 }

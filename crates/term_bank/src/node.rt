@@ -91,7 +91,26 @@ pub enum Node {
 }
 
 impl Node {
+    ghost use Rattle.stt_core.specs.View.{the_type, the_head};
     ghost use Rattle.term_bank.specs.NodeView.{the_shape};
+    ghost use Rattle.term_bank.specs.Shape.{abstraction, spine};
+
+    /// The node of a function, with a copy of its type.
+    pub(crate) fn lam(alloc: Global, ty: &Ty, body: Id) -> Result<Node, AllocError>
+        ensures { IfOk result (λ node. the_shape node ≡ abstraction (the_type ty.now) body) }
+    {
+        let ty = ty.try_clone(alloc)?;
+        Ok(Node::Lam { ty, body })
+    }
+
+    /// The node of a head with its arguments, with copies of both.
+    pub(crate) fn app(alloc: Global, head: &Head, args: &[Id]) -> Result<Node, AllocError>
+        ensures { IfOk result (λ node. the_shape node ≡ spine (the_head head.now) args.now) }
+    {
+        let head = head.try_clone(alloc)?;
+        let args = Ids::from_slice(alloc, args)?;
+        Ok(Node::App { head, args })
+    }
 
     /// A copy of the node.
     #[inline(never)]
@@ -99,14 +118,8 @@ impl Node {
         ensures { IfOk result (λ node. the_shape node ≡ the_shape self.now) }
     {
         match self {
-            Node::Lam { ty, body } => Ok(Node::Lam {
-                ty: ty.try_clone(alloc)?,
-                body: *body,
-            }),
-            Node::App { head, args } => Ok(Node::App {
-                head: head.try_clone(alloc)?,
-                args: Ids::from_slice(alloc, args.as_slice())?,
-            }),
+            Node::Lam { ty, body } => Node::lam(alloc, ty, *body),
+            Node::App { head, args } => Node::app(alloc, head, args.as_slice()),
         }
     }
 }
