@@ -2,7 +2,7 @@
 
 ghost use Rattle.std.specs.Prelude.{◌≡◌, suc, IfOk, option_map};
 ghost use Rattle.type_check.specs.Internal.TypedView.{the_typed};
-ghost use Rattle.type_check.specs.Internal.ScopeView.{the_scope, found_in};
+ghost use Rattle.type_check.specs.Internal.ScopeView.{the_binders, found_in};
 
 use crate::typed::{TypeOf, Typed};
 use std::alloc::AllocError;
@@ -36,7 +36,7 @@ fn one_more(k: u32) -> Result<u32, AllocError>
 impl<'a> Scope<'a> {
     /// The innermost variable of that name, where `k` more binders stand before these.
     pub(crate) fn variable(&self, k: u32, name: &[u8]) -> Result<Option<Typed<'a>>, AllocError>
-        ensures { IfOk result (λ x. option_map the_typed x ≡ found_in k (the_scope self.now) name.now) }
+        ensures { IfOk result (λ x. option_map the_typed x ≡ found_in k (the_binders self.now) name.now) }
     {
         match self {
             Scope::Empty => Ok(None),

@@ -10,7 +10,7 @@ ghost use Rattle.type_check.specs.Rows as rows;
 ghost use Rattle.type_check.specs.Typed.{typed};
 ghost use Rattle.thf_grammar.specs.declared.connective.Conn.TheVariants as conn;
 ghost use Rattle.type_check.specs.Terms as defined;
-ghost use Rattle.type_check.specs.Internal.ScopeView.{the_scope, AnswersIn};
+ghost use Rattle.type_check.specs.Internal.ScopeView.{the_binders, AnswersIn};
 ghost use Rattle.type_check.specs.Internal.Quantifiers.{read_negation, read_quantifier, read_bound};
 ghost use Rattle.type_check.specs.Internal.TypedView.{the_typed};
 
@@ -105,7 +105,7 @@ fn read_term<'a>(
     scope: &Scope<'a>,
     tree: &Surface,
 ) -> Result<Typed<'a>, Refusal>
-    ensures { AnswersIn (the_scope scope.now) (λ vars. defined.read_term declared.now vars (the_formula tree.now)) result }
+    ensures { AnswersIn (the_binders scope.now) (λ vars. defined.read_term declared.now vars (the_formula tree.now)) result }
 {
     match tree {
         Surface::Name { at, name } => known(*at, declared.constant(name)),
@@ -152,7 +152,7 @@ fn read_negated<'a>(
     at: u32,
     body: &Surface,
 ) -> Result<Typed<'static>, Refusal>
-    ensures { AnswersIn (the_scope scope.now) (read_negation declared.now at (the_formula body.now)) result }
+    ensures { AnswersIn (the_binders scope.now) (read_negation declared.now at (the_formula body.now)) result }
 {
     let x = read_term(alloc, declared, scope, body)?;
     negated(alloc, at, x)
@@ -169,7 +169,7 @@ fn read_infix<'a>(
     left: &Surface,
     right: &Surface,
 ) -> Result<Typed<'a>, Refusal>
-    ensures { AnswersIn (the_scope scope.now) (read_infix declared.now at between (the_formula left.now) (the_formula right.now)) result }
+    ensures { AnswersIn (the_binders scope.now) (read_infix declared.now at between (the_formula left.now) (the_formula right.now)) result }
 {
     let x = read_term(alloc, declared, scope, left)?;
     let y = read_term(alloc, declared, scope, right)?;
@@ -186,7 +186,7 @@ fn read_quantified<'a>(
     all: bool,
     predicate: &Surface,
 ) -> Result<Typed<'static>, Refusal>
-    ensures { AnswersIn (the_scope scope.now) (read_quantifier declared.now at all (the_formula predicate.now)) result }
+    ensures { AnswersIn (the_binders scope.now) (read_quantifier declared.now at all (the_formula predicate.now)) result }
 {
     if all {
         let x = read_term(alloc, declared, scope, predicate)?;
@@ -208,7 +208,7 @@ fn read_binder<'a>(
     vars: &[SurfaceVar],
     body: &Surface,
 ) -> Result<Typed<'a>, Refusal>
-    ensures { AnswersIn (the_scope scope.now) (read_bound declared.now at binder (the_vars vars.now) (the_formula body.now)) result }
+    ensures { AnswersIn (the_binders scope.now) (read_bound declared.now at binder (the_vars vars.now) (the_formula body.now)) result }
 {
     let Some((var, rest)) = vars.split_first() else {
         return read_term(alloc, declared, scope, body);

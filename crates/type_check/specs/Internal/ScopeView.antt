@@ -17,10 +17,10 @@ pub data Around : Type 0 where
   named : TypedName → Around
   hidden : Around
 
-abbrev pub the_scope : Scope → List Around
-the_scope Empty = []
-the_scope (Inner' name ty p outer) = named (record { name = name.now; type = the_type ty.now }) ∷ the_scope outer
-the_scope (Hidden' p outer) = hidden ∷ the_scope outer
+abbrev pub the_binders : Scope → List Around
+the_binders Empty = []
+the_binders (Inner' name ty p outer) = named (record { name = name.now; type = the_type ty.now }) ∷ the_binders outer
+the_binders (Hidden' p outer) = hidden ∷ the_binders outer
 
 -- the named variables, with their types
 abbrev pub variables : List Around → List TypedName

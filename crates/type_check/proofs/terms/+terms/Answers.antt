@@ -8,7 +8,7 @@ use Rattle.type_check.specs.Outcome.{◌>>=◌}
 use Rattle.stt_core.specs.Signature.{symbol_named}
 use Rattle.thf_grammar.specs.declared.formula.Surface.{Surface}
 use Rattle.type_check.specs.Terms.{TermReading, known_term, read_term, read_binder, bind}
-use Rattle.type_check.specs.Internal.ScopeView.{the_scope, variables, named, placed_reading}
+use Rattle.type_check.specs.Internal.ScopeView.{the_binders, variables, named, placed_reading}
 use Rattle.type_check.specs.Internal.TypedView.{the_typed}
 use Rattle.type_check.proofs.BinderLaws.{refuses-then, read_binder-first}
 use Rattle.type_check.proofs.ScopeLaws.{then-placed, bind-placed, constant-placed, truth-placed, operator-placed, negation-answers, infix-answers, everywhere-answers, somewhere-answers}
@@ -17,7 +17,7 @@ use Rattle.type_check.proofs.terms.+terms.Goals as goal
 pub read_binder-returns-in_err-bound : goal.read_binder-returns-in_err-bound
 read_binder-returns-in_err-bound t c =
     let d = c.args.declared.now in
-    let scope = the_scope c.args.scope.now in
+    let scope = the_binders c.args.scope.now in
     let v = the_var c.in-Some.var.now in
     let here : TypedName = record { name = c.as_slice.result.now; type = the_type c.in_ok-a.a } in
     let body : List TypedName → TermReading = λ inner. read_term d inner (the_formula c.args.body.now) in
@@ -31,7 +31,7 @@ read_binder-returns-in_err-bound t c =
 pub read_binder-returns : goal.read_binder-returns
 read_binder-returns t c =
     let d = c.args.declared.now in
-    let scope = the_scope c.args.scope.now in
+    let scope = the_binders c.args.scope.now in
     let v = the_var c.in-Some.var.now in
     let here : TypedName = record { name = c.as_slice.result.now; type = the_type c.in_ok-a.a } in
     let body : List TypedName → TermReading = λ inner. read_term d inner (the_formula c.args.body.now) in
@@ -43,44 +43,44 @@ read_binder-returns t c =
 
 pub read_infix-returns : goal.read_infix-returns
 read_infix-returns t c =
-    let scope = the_scope c.args.scope.now in
+    let scope = the_binders c.args.scope.now in
     let read = λ (s : Surface). read_term c.args.declared.now (variables scope) (the_formula s) in
     subst (AnswersCheck the_typed c.combined.result) (sym (infix-answers scope c.args.at c.args.between (read c.args.left.now) (read c.args.right.now) (the_typed c.in_ok-x.x) (the_typed c.in_ok-y.y) c.in_ok-x.ensures c.in_ok-y.ensures)) c.combined.ensures
 
 pub read_negated-returns : goal.read_negated-returns
 read_negated-returns t c =
-    let scope = the_scope c.args.scope.now in
+    let scope = the_binders c.args.scope.now in
     let read = λ (s : Surface). read_term c.args.declared.now (variables scope) (the_formula s) in
     subst (AnswersCheck the_typed c.negated.result) (sym (negation-answers scope c.args.at (read c.args.body.now) (the_typed c.in_ok-x.x) c.in_ok-x.ensures)) c.negated.ensures
 
 pub read_quantified-returns-then-all : goal.read_quantified-returns-then-all
 read_quantified-returns-then-all t c =
-    let scope = the_scope c.args.scope.now in
+    let scope = the_binders c.args.scope.now in
     let read = λ (s : Surface). read_term c.args.declared.now (variables scope) (the_formula s) in
     subst (AnswersCheck the_typed c.everywhere.result) (sym (everywhere-answers scope c.args.at c.args.all (read c.args.predicate.now) (the_typed c.in_ok-x.x) c.if-all.true c.in_ok-x.ensures)) c.everywhere.ensures
 
 pub read_quantified-returns : goal.read_quantified-returns
 read_quantified-returns t c =
-    let scope = the_scope c.args.scope.now in
+    let scope = the_binders c.args.scope.now in
     let read = λ (s : Surface). read_term c.args.declared.now (variables scope) (the_formula s) in
     subst (AnswersCheck the_typed c.somewhere.result) (sym (somewhere-answers scope c.args.at c.args.all (read c.args.predicate.now) (the_typed c.in_ok-x-2.x) c.if-all.false c.in_ok-x-2.ensures)) c.somewhere.ensures
 
 pub read_term-returns-in-Name : goal.read_term-returns-in-Name
 read_term-returns-in-Name t c =
     let d = c.args.declared.now in
-    let scope = the_scope c.args.scope.now in
+    let scope = the_binders c.args.scope.now in
     let is = ap (λ (s : Surface). placed_reading scope (read_term d (variables scope) (the_formula s))) c.in-Name.is in
     let stays = constant-placed scope c.in-Name.at d.consts (symbol_named d.bases d.consts c.in-Name.name) in
     subst (AnswersCheck the_typed c.known.result) (sym (is ∙ stays ∙ ap (known_term c.in-Name.at) (sym c.constant.ensures))) c.known.ensures
 
 pub read_term-returns-in_ok-truth-in-Truth : goal.read_term-returns-in_ok-truth-in-Truth
 read_term-returns-in_ok-truth-in-Truth t c =
-    let scope = the_scope c.args.scope.now in
+    let scope = the_binders c.args.scope.now in
     let is = ap (λ (s : Surface). placed_reading scope (read_term c.args.declared.now (variables scope) (the_formula s))) c.in-Truth.is in
     is ∙ ap Ok (truth-placed scope c.in-Truth.value ∙ sym c.in_ok-truth-in-Truth.ensures)
 
 pub read_term-returns-in_ok-operator-in-Op : goal.read_term-returns-in_ok-operator-in-Op
 read_term-returns-in_ok-operator-in-Op t c =
-    let scope = the_scope c.args.scope.now in
+    let scope = the_binders c.args.scope.now in
     let is = ap (λ (s : Surface). placed_reading scope (read_term c.args.declared.now (variables scope) (the_formula s))) c.in-Op.is in
     is ∙ ap Ok (operator-placed scope c.in-Op.conn ∙ sym c.in_ok-operator-in-Op.ensures)
