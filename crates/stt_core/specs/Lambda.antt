@@ -1,5 +1,5 @@
--- Terms of simple type theory with choice and definite description (Church 1940, sections 1 to 3), without names for bound variables (de
--- Bruijn, Lambda calculus notation with nameless dummies, 1972).
+-- Terms of simple type theory with choice and definite description (Church 1940), without names for bound variables (de Bruijn, Lambda
+-- calculus notation with nameless dummies, 1972).
 use Rattle.std.specs.Prelude.{ℕ, suc, ◌+◌, List, [], ◌∷◌}
 use Rattle.stt_core.specs.SimpleType.{SimpleType}
 

@@ -1,5 +1,5 @@
--- What terms mean in the standard models whose base types are finite (Henkin, Completeness in the theory of types, 1950, section 2;
--- Andrews, An introduction to mathematical logic and type theory, 2002, section 54).
+-- What terms mean in the standard models whose base types are finite (Henkin, Completeness in the theory of types, 1950; Andrews, An
+-- introduction to mathematical logic and type theory, 2002, section 54).
 use Rattle.std.specs.Prelude.{◌≡◌, ◌<◌, ℕ, zero, suc, ◌*◌, ◌^◌, ◌-◌, List, [], ◌∷◌, Option, Some, None, unwrap_or, slice_get, slice_index, nat_eq, if◌then◌else◌}
 use Rattle.stt_core.specs.SimpleType.{SimpleType, base, arrow, formula, predicate, same_type}
 use Rattle.stt_core.specs.Lambda.{Constant, name, witness, falsity, negation, implication, all, equality, choice, description, Lambda, bound, constant, lam, app}

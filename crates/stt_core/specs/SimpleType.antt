@@ -1,4 +1,4 @@
--- Simple types (Church, A formulation of the simple theory of types, 1940, section 2).
+-- Simple types (Church, A formulation of the simple theory of types, 1940).
 use Rattle.std.specs.Prelude.{ℕ, ◌+◌, Bool, false, ◌&&◌, nat_lt, nat_eq}
 
 -- A base type by its number, or the functions from the first type to the second. Number 0 is the type of formulas, `$o`,

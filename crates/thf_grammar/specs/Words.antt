@@ -45,7 +45,7 @@ name_in kind.Bad text = text
 unfoldable pub name_of : Lexeme → List ℕ
 name_of t = name_in t.kind t.text
 
--- a token of a file, with its depth: how many things are open there, its own included
+-- a token of a file, with its depth: how deep nesting is there, its own included
 pub record Word : Type 0 where
   pub lexeme : Lexeme
   pub depth : ℕ

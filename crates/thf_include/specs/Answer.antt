@@ -12,8 +12,8 @@ AreContents contents names [] = Unit {0}
 AreContents contents [] (text ∷ texts) = ⊥
 AreContents contents (name ∷ names) (text ∷ texts) = (contents name ≡ Some text) × AreContents contents names texts
 
--- A refusal tells a stop of which Q holds, where the files of these names were opened. A fault is that of the file that is wanted. Want of
--- memory may come anywhere: either E holds, or the last file that was opened is wanted.
+-- A refusal tells a stop of which Q holds, where the files of these names were opened. A fault is that of the file that is wanted. Memory
+-- may run out anywhere: either E holds, or the last file that was opened is wanted.
 abbrev pub StopsAs : (Stop → Type 0) → Type 0 → List (List ℕ) → GatherRefused → Type 0
 StopsAs Q E names (Fault file) = Q (wants file) × (length names ≡ file + 1)
 StopsAs Q E names (TooLong file) = Q (too_long file)
