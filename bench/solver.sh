@@ -1,8 +1,10 @@
 #!/usr/bin/env bash
-# Compares a program that reads DIMACS from its input with minisat (Debian's package): bench/solver.sh PROGRAM
+# Compares a program that reads DIMACS from its input with minisat (Debian's package): bench/solver.sh [PROGRAM]
+# Without a word it is the built test_dimacs.
 # Each line: the problems, the seconds of both, the least of five runs each, their ratio, and the most memory that the program took.
 set -eu
 here=$(dirname -- "$(readlink -f -- "$0")")
+program=${1:-$here/../crates/test_dimacs/out/test_dimacs}
 folder=$(mktemp -d)
 trap 'rm -r "$folder"' EXIT
 python3 "$here/solver_problems.py" "$folder"
@@ -17,9 +19,9 @@ least() {
 
 for group in pigeons8 pigeons9 random150 random200 wide10000; do
   for problem in "$folder/$group"*.cnf; do
-    least "$problem" "$folder/$group.ours" "$1"
+    least "$problem" "$folder/$group.ours" "$program"
     least "$problem" "$folder/$group.minisat" minisat -verb=0 "$problem" /dev/null
-    /usr/bin/time -a -o "$folder/$group.memory" -f %M "$1" <"$problem" >"$folder/answer" || true
+    /usr/bin/time -a -o "$folder/$group.memory" -f %M "$program" <"$problem" >"$folder/answer" || true
   done
   most=$(grep -v exited "$folder/$group.memory" | sort -n | tail -n 1)
   paste "$folder/$group.ours" "$folder/$group.minisat" | awk -v group="$group" -v most="$most" '

@@ -10,7 +10,7 @@ use crate::options::OptionName;
 use crate::{Asked, Cuts};
 
 /// What the words give: the value of an option, the option without a value, or the problem.
-#[derive(Clone, Copy, Debug)]
+#[derive(Clone, Copy)]
 pub(crate) enum Entry<'a> {
     Value(OptionName, &'a str),
     Same,

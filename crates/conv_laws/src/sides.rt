@@ -11,7 +11,7 @@ use std::alloc::{AllocError, Global};
 use stt_core::{Problem, Term};
 
 /// What is said of the two sides of a conjecture.
-#[derive(Clone, Copy, Debug, PartialEq, Eq)]
+#[derive(Clone, Copy, PartialEq, Eq)]
 pub enum Sides {
     /// They are convertible.
     Same,

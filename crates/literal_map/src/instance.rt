@@ -10,7 +10,7 @@ use term_bank::Id;
 /// branch goes on. Each line ends with the rule's source, and its name there where it has one: C. E. Brown, G. Smolka, *Analytic tableaux
 /// for simple type theory and its first-order fragment*, 2010, or J. Backes, C. E. Brown, *Analytic tableaux for higher-order logic with
 /// choice*, 2011. The table is `tableau_calculus/specs/Rules`.
-#[derive(Clone, Copy, Debug, PartialEq, Eq)]
+#[derive(Clone, Copy, PartialEq, Eq)]
 pub enum RuleKind {
     /// The principal is falsity. There is no alternative: the branch is closed (this project's form of the rules for connectives).
     False,

@@ -11,7 +11,7 @@ use stt_core::Head;
 use term_bank::{Bank, Id, Ids, Node};
 
 /// A formula that isn't a negation, by its number, with a sign.
-#[derive(Clone, Copy, Debug, PartialEq, Eq)]
+#[derive(Clone, Copy, PartialEq, Eq)]
 pub struct SignedAtom {
     pub atom: Id,
     pub positive: bool,

@@ -6,7 +6,7 @@ ghost use Rattle.mode_file.specs.Lines.{IsCutBefore};
 ghost use Rattle.mode_file.specs.Internal.Fronts.{is_in};
 
 /// A kind of bytes.
-#[derive(Clone, Copy, Debug)]
+#[derive(Clone, Copy)]
 pub(crate) enum ByteClass {
     /// All but line feeds.
     InLine,

@@ -7,7 +7,7 @@ use crate::Mode;
 use crate::keys::Key;
 
 /// The numbers that were given so far.
-#[derive(Clone, Copy, Debug, Drop)]
+#[derive(Clone, Copy, Drop)]
 pub(crate) struct Given {
     process: Option<u32>,
     mate: Option<u32>,

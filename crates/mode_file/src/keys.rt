@@ -3,7 +3,7 @@ ghost use Rattle.std.specs.Prelude.{◌≡◌};
 ghost use Rattle.mode_file.specs.Keys.{key_name, greatest, key_of};
 
 /// A key of a mode file.
-#[derive(Clone, Copy, Debug)]
+#[derive(Clone, Copy)]
 pub(crate) enum Key {
     Process,
     Mate,

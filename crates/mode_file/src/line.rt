@@ -33,7 +33,7 @@ pub fn begins_with_key(line: &[u8]) -> bool
 }
 
 /// A key with its number.
-#[derive(Clone, Copy, Debug)]
+#[derive(Clone, Copy)]
 pub(crate) struct Setting {
     pub key: Key,
     pub number: u64,

@@ -9,7 +9,7 @@ use crate::bytes::{ByteClass, split_front};
 use std::str;
 
 /// Why a line's number isn't read.
-#[derive(Clone, Copy, Debug, PartialEq, Eq)]
+#[derive(Clone, Copy, PartialEq, Eq)]
 pub enum NumberRefused {
     /// The first word isn't followed by spaces, a number, any spaces, and at most one carriage return.
     Missing,

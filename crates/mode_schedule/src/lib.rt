@@ -32,7 +32,7 @@ pub use turned::{Took, Turned};
 pub use turns::{SliceRule, SliceWeigher, Turn};
 
 /// A mode, and how many commands its search carries out in a turn at most.
-#[derive(Clone, Copy, Debug, PartialEq, Eq)]
+#[derive(Clone, Copy, PartialEq, Eq)]
 pub struct Block {
     pub slice: u32,
     pub mode: Mode,

@@ -8,7 +8,7 @@ use prover_run::delay;
 use prover_search::Waiting;
 
 /// What computes when the commands of a search are due, by its mode.
-#[derive(Clone, Copy, Debug)]
+#[derive(Clone, Copy)]
 pub struct ModeWeigher {
     pub mode: Mode,
 }

@@ -8,7 +8,7 @@ use std::alloc::{AllocError, AllocFailed};
 use thiserror::Error;
 
 /// Why a line is bad.
-#[derive(Clone, Copy, Debug)]
+#[derive(Clone, Copy)]
 pub(crate) enum Cause {
     UnknownKey,
     NoSlice,
@@ -19,7 +19,7 @@ pub(crate) enum Cause {
 }
 
 /// A line, counted from 1, and why it is bad.
-#[derive(Clone, Copy, Debug)]
+#[derive(Clone, Copy)]
 pub(crate) struct BadLine {
     pub line: u32,
     pub cause: Cause,

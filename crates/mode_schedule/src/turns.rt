@@ -4,14 +4,14 @@ ghost use Rattle.std.specs.Prelude.{◌≡◌, ◌+◌, ◌<◌, ◌^◌, ℕ};
 use command_queue::{DueRule, Weigher};
 
 /// A turn of the search of a block, by the block's number, and how many commands it carries out at most.
-#[derive(Clone, Copy, Debug, PartialEq, Eq)]
+#[derive(Clone, Copy, PartialEq, Eq)]
 pub struct Turn {
     pub block: u32,
     pub slice: u32,
 }
 
 /// A turn is due when as many commands were carried out as its slice has.
-#[derive(Clone, Copy, Debug)]
+#[derive(Clone, Copy)]
 pub struct SliceRule;
 
 impl DueRule<Turn> for SliceRule {
@@ -19,7 +19,7 @@ impl DueRule<Turn> for SliceRule {
 }
 
 /// What computes when turns are due.
-#[derive(Clone, Copy, Debug)]
+#[derive(Clone, Copy)]
 pub struct SliceWeigher;
 
 impl Weigher<Turn> for SliceWeigher {

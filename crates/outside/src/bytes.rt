@@ -16,7 +16,7 @@ use std::marker::Model;
 const INLINE: usize = 16;
 
 /// A list of bytes that grows.
-#[derive(Debug, Drop)]
+#[derive(Drop)]
 pub struct Bytes {
     items: SmallVec<u8, INLINE>,
 }

@@ -5,7 +5,7 @@ use std::alloc::{AllocError, Global};
 use std::marker::Model;
 
 /// Numbers of calls, counted from 0.
-#[derive(Debug, Drop)]
+#[derive(Drop)]
 pub struct CallList {
     numbers: Vec<u64>,
 }

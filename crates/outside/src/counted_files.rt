@@ -10,7 +10,7 @@ use std::marker::Model;
 
 /// Files in memory, and how often a call has failed for each name. All names that no file has are
 /// counted together.
-#[derive(Debug, Drop)]
+#[derive(Drop)]
 pub struct CountedFiles {
     entries: Vec<Entry>,
     others: u64,

@@ -4,7 +4,7 @@ ghost use Rattle.std.specs.Prelude.{◌≡◌, [], length, false, Ok};
 use crate::{Failed, Sink};
 
 /// A sink that takes every piece whole, and tells nothing. No call fails.
-#[derive(Clone, Copy, Debug, Default)]
+#[derive(Clone, Copy, Default)]
 pub struct DropSink;
 
 impl Sink for DropSink {

@@ -5,7 +5,7 @@ ghost use Rattle.outside.specs.Causes.{next_count};
 use crate::CallList;
 
 /// The numbers of the calls that fail, and how many calls were made, at most 2^64 - 1.
-#[derive(Debug, Drop)]
+#[derive(Drop)]
 pub struct FailingCalls {
     pub fails: CallList,
     pub made: u64,

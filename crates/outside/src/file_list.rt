@@ -6,7 +6,7 @@ use std::alloc::{AllocError, Global};
 use std::marker::Model;
 
 /// A file, and how often a call has failed for its name.
-#[derive(Debug, Drop)]
+#[derive(Drop)]
 pub struct Entry {
     pub name: String,
     pub bytes: Bytes,
@@ -14,7 +14,7 @@ pub struct Entry {
 }
 
 /// Files by name, in order. Where a name comes twice, its first file counts.
-#[derive(Debug, Drop)]
+#[derive(Drop)]
 pub struct FileList {
     entries: Vec<Entry>,
 }

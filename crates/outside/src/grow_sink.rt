@@ -7,7 +7,7 @@ use std::alloc::Global;
 use std::marker::Model;
 
 /// A sink that takes every piece whole. Where it finds no memory, it fails.
-#[derive(Debug, Drop)]
+#[derive(Drop)]
 pub struct GrowSink {
     bytes: Bytes,
     faults: u64,

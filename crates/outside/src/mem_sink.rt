@@ -9,7 +9,7 @@ use std::marker::Model;
 
 /// A sink with room for so many bytes. It also fails at the calls whose numbers are listed, counted
 /// from 0.
-#[derive(Debug, Drop)]
+#[derive(Drop)]
 pub struct MemSink {
     bytes: Vec<u8>,
     room: usize,

@@ -6,7 +6,7 @@ use crate::in_memory::read_at;
 use crate::{Bytes, Failed, Files};
 
 /// Files that have the same bytes under every name. No call fails.
-#[derive(Debug, Drop)]
+#[derive(Drop)]
 pub struct OneFile {
     bytes: Bytes,
     position: Option<usize>,

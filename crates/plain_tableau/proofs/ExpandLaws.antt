@@ -1,6 +1,6 @@
 -- Literals that are added one after the other, and the literals of start units.
 use Rattle.std.specs.Prelude.{if◌then◌else◌}
-use Rattle.std.proofs.Common.{◌≡◌, ◌<◌, ◌≤◌, ◌+◌, ◌++◌, ℕ, zero, suc, Bool, true, false, List, [], ◌∷◌, length, map, take, reverse, get_or, Option, Some, None, option_map, unwrap_or, slice_get, Contains, refl, sym, ap, ap₂, ◌∙◌, subst, append_assoc, arith}
+use Rattle.std.proofs.Common.{◌≡◌, ◌<◌, ◌≤◌, ◌+◌, ◌++◌, ℕ, zero, suc, Bool, true, false, List, [], ◌∷◌, length, map, take, reverse, get_or, Option, Some, None, option_map, unwrap_or, slice_get, Contains, refl, sym, ap, ap₂, ◌∙◌, subst, arith}
 use Rattle.std.specs.List.{All}
 use Rattle.std.proofs.lemmas.List.{append-nil, take_more, take_all, reverse-append}
 use Rattle.std.proofs.lemmas.Option.{slice_get-map, slice_get-get_or}
@@ -17,13 +17,14 @@ use Rattle.term_bank.specs.Content.{Content, content_scope}
 use Rattle.literal_map.specs.declared.instance.Instance.{Instance as BankInstance}
 use Rattle.tableau_clauses.specs.declared.origin.Origin.{Origin}
 use Rattle.tableau_clauses.specs.declared.origin.Origin.TheVariants.{Start, Instance as From}
-use Rattle.tableau_clauses.specs.Table.{Step, Table, the_clauses, the_origins, the_instances}
+use Rattle.tableau_clauses.specs.Table.{Step, Table, the_clauses, the_origins, the_instances, units_in, start_units}
+use Rattle.tableau_clauses.proofs.UnitLaws.{units-append}
 use Rattle.rebuild_spec.specs.Input.{literals_of}
 use Rattle.tableau_rebuild.specs.Tables.{atoms_at, the_instance, no_instance, unit_literals, start_literals_in}
 use Rattle.tableau_rebuild.specs.Conditions.{IsInstanceOver}
 use Rattle.tableau_rebuild.specs.Conditions.{IsGoodUse}
 use Rattle.plain_tableau.specs.Trees.{TreeInstance}
-use Rattle.plain_tableau.specs.Tables.{expanded, used_at, the_used, units_in, start_units, start_branch, IsUsable}
+use Rattle.plain_tableau.specs.Tables.{expanded, used_at, the_used, start_branch, IsUsable}
 use Rattle.plain_tableau.specs.Internal.Due.{without_rule, at_number, AreLiteralsOver}
 
 -- literals that are added one after the other
@@ -36,10 +37,6 @@ added_more b ls i l d now new h is e f =
     f ∙ ap₂ (λ xs x. added numbers xs (x ∷ [])) e is ∙ sym (added-append b (take i ls) (get_or ls i d ∷ [])) ∙ ap (added numbers b) (sym (take_more ls i d h))
 
 -- the start units of one step more
-units-append : (xs ys : List Step) → start_units (xs ++ ys) ≡ start_units xs ++ start_units ys
-units-append [] ys = refl
-units-append (s ∷ xs) ys = ap (λ ls. units_in s.0 s.1 ++ ls) (units-append xs ys) ∙ sym (append_assoc (units_in s.0 s.1) (start_units xs) (start_units ys))
-
 pub units_more : (t : List Step) (n : ℕ) (s : Step) → slice_get t n ≡ Some s → start_units (take (n + 1) t) ≡ start_units (take n t) ++ units_in s.0 s.1
 units_more t n s e =
     ap start_units (taken t n e) ∙ units-append (take n t) (s ∷ []) ∙ ap (λ ls. start_units (take n t) ++ ls) (append-nil (units_in s.0 s.1))

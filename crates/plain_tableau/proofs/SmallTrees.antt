@@ -29,7 +29,7 @@ use Rattle.literal_map.specs.declared.instance.Instance.{Instance as BankInstanc
 use Rattle.witness_names.specs.Rows.{rows_of}
 use Rattle.tableau_clauses.specs.declared.origin.Origin.{Origin}
 use Rattle.tableau_clauses.specs.declared.origin.Origin.TheVariants.{Start, Instance as From}
-use Rattle.tableau_clauses.specs.Table.{Step, Table, ComesFromOrigin, EachComes, the_instances}
+use Rattle.tableau_clauses.specs.Table.{Step, Table, ComesFromOrigin, EachComes, the_instances, units_in, start_units}
 use Rattle.refute_print.specs.Sizes.{IsSmallTerm, AreSmallLiterals, IsSmall}
 use Rattle.rebuild_spec.specs.Input.{Sourced, literals_of, Input}
 use Rattle.rebuild_spec.specs.Stands.{rule_at_places, place_in}
@@ -44,7 +44,7 @@ use Rattle.plain_tableau.specs.Trees.{TreeInstance, PlainTree, closed, node, Pla
 use Rattle.plain_tableau.specs.Expansion.{is_due, Expanded, found, open_at, over, put_under, put_before, Expands, closes, stays_open, is_over, makes, ExpandEach, no_more, open_below, over_below, goes_on, closing, Expansion, at_once, not_at_once, grows}
 use Rattle.plain_tableau.specs.Lines.{node_line, tree_children, lines_for_tree, lines_for_trees, IsOfTree}
 use Rattle.plain_tableau.specs.Small.{HasSmallAtom, AddsSmall, TreeTermsAreSmall}
-use Rattle.plain_tableau.specs.Tables.{expanded, used_at, the_used, units_in, start_units, start_branch, IsStripped, OfTree}
+use Rattle.plain_tableau.specs.Tables.{expanded, used_at, the_used, start_branch, IsStripped, OfTree}
 use Rattle.plain_tableau.specs.declared.stripped.Stripped.{Stripped}
 use Rattle.plain_tableau.specs.declared.stripped.Stripped.TheVariants.{Tree as Whole, Open, Over}
 use Rattle.plain_tableau.proofs.ListLaws.{first_passes}

@@ -22,7 +22,7 @@ use Rattle.literal_map.specs.declared.instance.Instance.{Instance as BankInstanc
 use Rattle.literal_map.specs.declared.instance.RuleKind.{RuleKind}
 use Rattle.literal_map.specs.declared.instance.RuleKind.TheVariants as kind
 use Rattle.witness_names.specs.Rows.{rows_of, AreRows}
-use Rattle.tableau_clauses.specs.Table.{Table}
+use Rattle.tableau_clauses.specs.Table.{Table, start_units}
 use Rattle.tableau_rules.specs.Uses.{rule_of, use_of, is_cut as is_cut_kind}
 use Rattle.rebuild_spec.specs.Input.{literals_of}
 use Rattle.tableau_rebuild.specs.Tables.{atoms_at, the_instance, no_instance, unit_literals}
@@ -30,7 +30,7 @@ use Rattle.tableau_rebuild.proofs.GivenLaws.{formula_wider}
 use Rattle.plain_tableau.specs.Trees.{TreeInstance}
 use Rattle.plain_tableau.specs.Given.{IsGivenInstance, AreInstancesGiven}
 use Rattle.tableau_calculus.specs.CutFree.{is_cut_use}
-use Rattle.plain_tableau.specs.Tables.{expanded, used_at, the_used, start_units, start_branch, IsUsable}
+use Rattle.plain_tableau.specs.Tables.{expanded, used_at, the_used, start_branch, IsUsable}
 use Rattle.plain_tableau.proofs.BranchLaws.{added_within}
 use Rattle.plain_tableau.proofs.ExpandLaws.{units_literals}
 

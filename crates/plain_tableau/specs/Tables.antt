@@ -1,5 +1,5 @@
 -- The tables of a search as what is expanded, and what comes of it.
-use Rattle.std.specs.Prelude.{◌≡◌, ◌≤◌, ℕ, false, List, [], ◌∷◌, ◌++◌, map, length, Some, slice_get, option_map, unwrap_or}
+use Rattle.std.specs.Prelude.{◌≡◌, ◌≤◌, ℕ, false, List, [], map, length, Some, slice_get, option_map, unwrap_or}
 use Rattle.stt_core.specs.Lambda.{Lambda}
 use Rattle.tableau_calculus.specs.Witnesses.{Row}
 use Rattle.tableau_calculus.specs.declared.refutation.Refutation.{Refutation}
@@ -8,9 +8,7 @@ use Rattle.tableau_calculus.specs.Kinds.{added}
 use Rattle.search_spec.specs.Numbered.{numbers}
 use Rattle.term_bank.specs.Content.{Content}
 use Rattle.literal_map.specs.declared.instance.Instance.{Instance as BankInstance}
-use Rattle.tableau_clauses.specs.declared.origin.Origin.{Origin}
-use Rattle.tableau_clauses.specs.declared.origin.Origin.TheVariants.{Start, Instance as From}
-use Rattle.tableau_clauses.specs.Table.{Step, Table, the_instances}
+use Rattle.tableau_clauses.specs.Table.{Table, the_instances, start_units}
 use Rattle.tableau_rules.specs.Uses.{is_cut}
 use Rattle.rebuild_spec.specs.Input.{Instance as TermInstance, literals_of}
 use Rattle.tableau_rebuild.specs.Tables.{the_instance, no_instance}
@@ -31,15 +29,6 @@ used_at terms atoms t k = expanded (unwrap_or (option_map (the_instance terms at
 -- the instances with these numbers
 abbrev pub the_used : List Lambda → List ℕ → Table → List ℕ → List (TreeInstance SatLit)
 the_used terms atoms t used = map (used_at terms atoms t) used
-
--- the literals of the start units, by numbers
-abbrev pub units_in : List SatLit → Origin → List SatLit
-units_in clause Start = clause
-units_in clause (From k) = []
-
-abbrev pub start_units : List Step → List SatLit
-start_units [] = []
-start_units (s ∷ steps) = units_in s.0 s.1 ++ start_units steps
 
 -- the branch from which the expansion starts: the literals of the start units in order, each once
 abbrev pub start_branch : Table → List SatLit

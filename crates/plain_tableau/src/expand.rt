@@ -12,9 +12,10 @@ ghost use Rattle.rebuild_spec.specs.Trimmed.{IsEachReached};
 ghost use Rattle.small_rebuilt.specs.Small.{AreNumbersInRange};
 ghost use Rattle.tableau_rebuild.specs.Tables.{atoms_at, unit_literals};
 ghost use Rattle.tableau_rebuild.specs.Conditions.{AreUnitsNumbered};
+ghost use Rattle.tableau_clauses.specs.Table.{start_units};
 ghost use Rattle.plain_tableau.specs.Expansion.{first_clash};
 ghost use Rattle.tableau_calculus.specs.CutFree.{HasNoCut};
-ghost use Rattle.plain_tableau.specs.Tables.{the_used, start_units, start_branch, IsUsable, IsStripped, OfTree, IsWithinLimit};
+ghost use Rattle.plain_tableau.specs.Tables.{the_used, start_branch, IsUsable, IsStripped, OfTree, IsWithinLimit};
 ghost use Rattle.plain_tableau.specs.Internal.Due.{IsPath};
 
 use crate::law::tree_is_accepted;

@@ -6,8 +6,6 @@ use Rattle.stt_core.specs.Typing.{Scope, IsScope}
 use Rattle.stt_core.specs.Canonical.{IsCanonical}
 use Rattle.stt_core.specs.SimpleType.{formula}
 use Rattle.stt_core.specs.TypedProblem.{IsFormula}
-use Rattle.normal_forms.specs.Normal.{normal_form}
-use Rattle.normal_forms.proofs.NormalValues.{canonical-normal_form}
 use Rattle.tableau_calculus.specs.Literals.{as_literal, is_negated, IsLiteral}
 use Rattle.tableau_calculus.proofs.LiteralLaws.{as_literal-is_literal}
 use Rattle.term_bank.specs.Content.{Content, HasTerm, Grows, content_scope}
@@ -19,14 +17,7 @@ use Rattle.bank_normal.specs.declared.forms.FormId.{FormId}
 use Rattle.delta_normal.specs.Forms.{normal_form_by}
 use Rattle.delta_normal.proofs.FormLaws.{canonical-by}
 
--- the atom of the literal of a formula's normal form is one of the bank
-pub normal-atom : (a b : Content) (n id : ℕ) (p : Bool) (t : Lambda) → Grows a b → IsScope (content_scope a) → IsFormula (content_scope a) t → HasTerm b n (normal_form (content_scope a) [] t) → id < length b.terms → is_negated (term_at b.terms id) ≡ false → record { positive = p; atom = term_at b.terms id } ≡ as_literal (term_at b.terms n) → IsAtom b id
-normal-atom a b n id p t grows scope typed has within unsigned is =
-    let l = subst (IsLiteral (content_scope a)) (sym (is ∙ ap as_literal (has_at b n (normal_form (content_scope a) [] t) has))) (as_literal-is_literal (content_scope a) (normal_form (content_scope a) [] t) (canonical-normal_form (content_scope a) scope [] formula t tt typed)) in
-    let C : Scope → Type 0 = λ s. IsCanonical s [] formula (term_at b.terms id) in
-    record { within = within; is_formula = subst C (sym (grown_scope a b grows)) l.formula; unsigned = unsigned }
-
--- the same of the form by names
+-- the atom of the literal of a formula's normal form, where names stand for forms, is one of the bank
 pub form-atom : (a b : Content) (fs : List FormId) (n id : ℕ) (p : Bool) (t : Lambda) → Grows a b → IsScope (content_scope a) → IsFormula (content_scope a) t → AreForms a fs → HasTerm b n (normal_form_by (content_scope a) (forms_in a.terms fs) [] t) → id < length b.terms → is_negated (term_at b.terms id) ≡ false → record { positive = p; atom = term_at b.terms id } ≡ as_literal (term_at b.terms n) → IsAtom b id
 form-atom a b fs n id p t grows scope typed forms has within unsigned is =
     let u = normal_form_by (content_scope a) (forms_in a.terms fs) [] t in

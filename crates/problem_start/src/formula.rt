@@ -3,7 +3,6 @@ ghost use Rattle.std.specs.Prelude.{◌≡◌, ◌<◌, [], length, All, IfOk};
 ghost use Rattle.stt_core.specs.TypedProblem.{IsFormula};
 ghost use Rattle.stt_core.specs.View.{the_term};
 ghost use Rattle.tableau_calculus.specs.Literals.{as_literal};
-ghost use Rattle.tableau_calculus.specs.Start.{normal_literal};
 ghost use Rattle.term_bank.specs.Content.{Grows, content_scope};
 ghost use Rattle.term_bank.specs.Terms.{term_at};
 ghost use Rattle.bank_normal.specs.Forms.{forms_in, AreForms};
@@ -18,53 +17,8 @@ use std::alloc::AllocError;
 use stt_core::Term;
 use term_bank::Bank;
 
-/// The literal of the formula's normal form, without a number for its atom.
-pub fn formula_atom(
-    bank: &mut Bank,
-    normal: &mut Normaliser,
-    formula: &Term,
-) -> Result<SignedAtom, AllocError>
-    requires formula { IsFormula (content_scope bank.old) (the_term formula.now) }
-    requires right { IsRightNormaliser normal.old bank.old }
-    ensures literal { IfOk result (λ a. record { positive = a.positive; atom = term_at bank.new.terms a.atom } ≡ normal_literal (content_scope bank.old) (the_term formula.now)) }
-    ensures atom { IfOk result (λ a. IsAtom bank.new a.atom) }
-    ensures grows { Grows bank.old bank.new }
-    ensures right { IsRightNormaliser normal.new bank.new }
-{
-    let _declared = bank.sig();
-    let id = normal.normalise(bank, formula)?;
-    Ok(atom_of(bank, id))
-}
-
-/// The literal of the formula's normal form. Where its atom has no number it gets the next one. A formula that is denied is the literal
-/// with the other sign.
-pub fn formula_literal(
-    bank: &mut Bank,
-    normal: &mut Normaliser,
-    lits: &mut LitTable,
-    formula: &Term,
-) -> Result<SatLit, AllocError>
-    requires formula { IsFormula (content_scope bank.old) (the_term formula.now) }
-    requires right { IsRightNormaliser normal.old bank.old }
-    requires atoms { All (IsAtom bank.old) lits.old }
-    ensures number { IfOk result (λ l. l.var.0 < length lits.new) }
-    ensures literal { IfOk result (λ l. bank_literal bank.new.terms lits.new l ≡ normal_literal (content_scope bank.old) (the_term formula.now)) }
-    ensures grows { Grows bank.old bank.new }
-    ensures right { IsRightNormaliser normal.new bank.new }
-    ensures begins { Begins lits.old lits.new }
-    ensures atoms { All (IsAtom bank.new) lits.new }
-{
-    literals_stay();
-    let signed = formula_atom(bank, normal, formula)?;
-    let lit = lits.lit_of(bank, signed.atom)?;
-    Ok(SatLit {
-        var: lit.var,
-        positive: signed.positive,
-    })
-}
-
 /// The literal of the formula's normal form where names stand for terms of the bank, without a number for its atom.
-pub fn formula_atom_by(
+fn formula_atom_by(
     bank: &mut Bank,
     normal: &mut Normaliser,
     forms: &Forms,
@@ -84,7 +38,7 @@ pub fn formula_atom_by(
 }
 
 /// The literal of the formula's normal form where names stand for terms of the bank. Where its atom has no number it gets the next one.
-pub fn formula_literal_by(
+pub(crate) fn formula_literal_by(
     bank: &mut Bank,
     normal: &mut Normaliser,
     lits: &mut LitTable,

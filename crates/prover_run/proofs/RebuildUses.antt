@@ -32,7 +32,7 @@ use Rattle.rebuild_spec.specs.Used.{AreFew}
 use Rattle.search_spec.specs.Numbered as by_atoms
 use Rattle.search_spec.specs.Numbered.{AreApart}
 use Rattle.search_spec.specs.Unsatisfiable.{Clause}
-use Rattle.tableau_clauses.specs.Table.{Step, Table, the_clauses, ComesFromOrigin, EachComes}
+use Rattle.tableau_clauses.specs.Table.{Step, Table, the_clauses, ComesFromOrigin, EachComes, units_in, start_units}
 use Rattle.tableau_clauses.specs.declared.origin.Origin.{Origin}
 use Rattle.tableau_clauses.specs.declared.origin.Origin.TheVariants.{Start, Instance as From}
 use Rattle.tableau_rules.specs.Uses.{principals_of}
@@ -45,7 +45,6 @@ use Rattle.prover_state.specs.Internal.Standing.{rows_in, IsBasis}
 use Rattle.prover_state.specs.Internal.Steps.{IsMadeInstance}
 use Rattle.prover_state.proofs.EachLaws.{each-weaker, each-unmapped, map-same, All-from_each}
 use Rattle.prover_state.proofs.NumberLaws.{literal_named}
-use Rattle.prover_search.specs.Internal.Running.{unit_of_origin, units}
 use Rattle.prover_run.specs.Learning.{HasLearned, AreRefutedWithin}
 use Rattle.prover_run.specs.Origin.{ComesFrom as ComesFromClauses, EachComesFrom, AreRefutedShortly}
 use Rattle.prover_run.proofs.LearningLaws.{propagates-from_reaches}
@@ -137,16 +136,16 @@ module _ (g : Basis) (good : IsBasis g) where
   pub units-numbered : (steps : List Step) → Each (Each (IsNumberIn g.lits)) (map (λ (s : Step). s.0) steps) → All (λ (s : Step). s.1 ≡ Start → IsOver (length g.lits) s.0) steps
   units-numbered steps h = All-from_each (λ (s : Step). s.1 ≡ Start → IsOver (length g.lits) s.0) steps (units_each steps (each-unmapped (Each (IsNumberIn g.lits)) (λ (s : Step). s.0) steps h))
 
-  unit_named : (clause : List SatLit) (o : Origin) → Each (IsNumberIn g.lits) clause → map by_number (unit_of_origin clause o) ≡ start_literals_in named clause o
+  unit_named : (clause : List SatLit) (o : Origin) → Each (IsNumberIn g.lits) clause → map by_number (units_in clause o) ≡ start_literals_in named clause o
   unit_named clause Start h = literals-named clause h
   unit_named clause (From k) h = refl
 
   -- the start units are the same literals
-  pub units-named : (steps : List Step) → Each (Each (IsNumberIn g.lits)) (map (λ (s : Step). s.0) steps) → map by_number (units steps) ≡ unit_literals named steps
+  pub units-named : (steps : List Step) → Each (Each (IsNumberIn g.lits)) (map (λ (s : Step). s.0) steps) → map by_number (start_units steps) ≡ unit_literals named steps
   units-named [] h = refl
   units-named (s ∷ steps) h =
-      map-append by_number (unit_of_origin s.0 s.1) (units steps)
-      ∙ ap (λ ls. ls ++ map by_number (units steps)) (unit_named s.0 s.1 h.0)
+      map-append by_number (units_in s.0 s.1) (start_units steps)
+      ∙ ap (λ ls. ls ++ map by_number (start_units steps)) (unit_named s.0 s.1 h.0)
       ∙ ap (λ ls. start_literals_in named s.0 s.1 ++ ls) (units-named steps h.1)
 
   module _ (t : Table) (numbers : Each (Each (IsNumberIn g.lits)) (the_clauses t)) where

@@ -21,11 +21,11 @@ use Rattle.search_spec.proofs.UnsatLaws.{numbers_stand}
 use Rattle.term_bank.specs.Terms.{term_at}
 use Rattle.tableau_clauses.specs.declared.origin.Origin.{Origin}
 use Rattle.tableau_clauses.specs.declared.origin.Origin.TheVariants.{Start, Instance as From}
-use Rattle.tableau_clauses.specs.Table.{Step, Table, the_instances, EachComes, StandInOrder}
+use Rattle.tableau_clauses.specs.Table.{Step, Table, the_instances, EachComes, StandInOrder, start_units}
 use Rattle.rebuild_spec.specs.Input.{Instance, clause_by, literals_of}
 use Rattle.tableau_rebuild.specs.Tables.{no_instance, atoms_at, the_instance, sourced, the_sources, the_input, unit_literals}
 use Rattle.tableau_rebuild.specs.UsedInstances.{IsUsedInstance}
-use Rattle.plain_tableau.specs.Tables.{expanded, the_used, start_units, start_branch, OfTree}
+use Rattle.plain_tableau.specs.Tables.{expanded, the_used, start_branch, OfTree}
 use Rattle.plain_tableau.specs.declared.stripped.Stripped.{Stripped}
 use Rattle.plain_tableau.specs.declared.stripped.Stripped.TheVariants.{Tree as Whole, Open, Over}
 use Rattle.plain_tableau.proofs.ExpandLaws.{step_there, units_literals, units_over}

@@ -30,7 +30,8 @@ use Rattle.term_bank.specs.Content.{content_scope}
 use Rattle.witness_names.specs.Rows.{rows_of}
 use Rattle.literal_map.specs.Atoms.{bank_literal}
 use Rattle.tableau_clauses.specs.declared.origin.Origin.TheVariants.{Start}
-use Rattle.tableau_clauses.specs.Table.{Step, Table, clauses_in, the_clauses}
+use Rattle.tableau_clauses.specs.Table.{Step, Table, clauses_in, the_clauses, start_units}
+use Rattle.tableau_clauses.proofs.UnitLaws.{units-append}
 use Rattle.prover_state.specs.declared.command.Planned.{Planned}
 use Rattle.prover_state.specs.declared.command.Delays.{Delays}
 use Rattle.prover_state.specs.declared.tables.Basis.{Basis}
@@ -38,10 +39,10 @@ use Rattle.prover_state.specs.declared.tables.Tables.{Tables}
 use Rattle.prover_state.specs.Internal.Growing.{BasisGrows}
 use Rattle.prover_state.specs.Internal.Standing.{without_witnesses, setting_by, the_state, IsBasis, IsRightState}
 use Rattle.prover_state.specs.Internal.Steps.{IsMadeInstance}
-use Rattle.prover_search.specs.Internal.Running.{units, start_in, IsRunning}
+use Rattle.prover_search.specs.Internal.Running.{start_in, IsRunning}
 use Rattle.prover_search.specs.Internal.Starting.{AddsUnit, AddsStart, IsStarting}
 use Rattle.prover_search.proofs.DevelopLaws.{grows-wider, wider-then, wider-itself}
-use Rattle.prover_search.proofs.UnitLaws.{units-append, start-stays}
+use Rattle.prover_search.proofs.UnitLaws.{start-stays}
 use Rattle.prover_state.proofs.StateStays.{state-stays, right-stays}
 use Rattle.prover_search.proofs.StartLaws.{unit, started-last, started-again, alone-clauses}
 
@@ -50,12 +51,12 @@ mapped_length f [] = refl
 mapped_length f (x ∷ xs) = ap (λ n. suc n) (mapped_length f xs)
 
 -- where a clause came, the literal is the last start unit
-units_added : (lit : SatLit) (old new : Table) → AddsUnit lit old new → length new.0 ≡ length old.0 + 1 → units new.0 ≡ units old.0 ++ lit ∷ []
+units_added : (lit : SatLit) (old new : Table) → AddsUnit lit old new → length new.0 ≡ length old.0 + 1 → start_units new.0 ≡ start_units old.0 ++ lit ∷ []
 units_added lit old new a longer = by_test (list_any (same_clause numbers (lit ∷ [])) (the_clauses old)) a.clauses
   where
-    by_test : (b : Bool) → new.0 ≡ (if b then old.0 else old.0 ++ (lit ∷ [], Start) ∷ []) → units new.0 ≡ units old.0 ++ lit ∷ []
+    by_test : (b : Bool) → new.0 ≡ (if b then old.0 else old.0 ++ (lit ∷ [], Start) ∷ []) → start_units new.0 ≡ start_units old.0 ++ lit ∷ []
     by_test true e = absurd (omega (arith, longer, ap length e))
-    by_test false e = ap units e ∙ units-append old.0 ((lit ∷ [], Start) ∷ [])
+    by_test false e = ap start_units e ∙ units-append old.0 ((lit ∷ [], Start) ∷ [])
 
 -- where none came, the literal's clause was there
 unit_there : (lit : SatLit) (old new : Table) → AddsUnit lit old new → length new.0 ≡ length old.0 → new ≡ old
@@ -158,7 +159,7 @@ module _ (t0 : Tables) (q0 : Queue Planned Delays) where
     state = empty;
     right = right;
     basis = grows-itself t0.basis;
-    units = ap (λ (x : Table). map (bank_literal t0.basis.bank.terms t0.basis.lits) (units x.0)) none;
+    units = ap (λ (x : Table). map (bank_literal t0.basis.bank.terms t0.basis.lits) (start_units x.0)) none;
     instances = ap (λ (x : Table). x.1) none;
     rule = refl;
   }
@@ -188,8 +189,8 @@ module _ (t0 : Tables) (q0 : Queue Planned Delays) where
     basis_grows = subst (BasisGrows t0.basis) (sym same) s.basis
 
     -- the start units by what the numbers stood for
-    in_place : start_in u ≡ map (bank_literal t.basis.bank.terms t.basis.lits) (units u.steps.0)
-    in_place = ap (λ (g : Basis). map (bank_literal g.bank.terms g.lits) (units u.steps.0)) same
+    in_place : start_in u ≡ map (bank_literal t.basis.bank.terms t.basis.lits) (start_units u.steps.0)
+    in_place = ap (λ (g : Basis). map (bank_literal g.bank.terms g.lits) (start_units u.steps.0)) same
 
     steps_before : length t.steps.0 ≡ length (shallow ls)
     steps_before = sym (clauses_length t q) ∙ ap (λ (x : State). length x.clauses) s.state ∙ mapped_length unit (shallow ls)
@@ -212,7 +213,7 @@ module _ (t0 : Tables) (q0 : Queue Planned Delays) where
             state = state_again;
             right = right;
             basis = basis_grows;
-            units = in_place ∙ ap (λ (x : Table). map (bank_literal t.basis.bank.terms t.basis.lits) (units x.0)) kept ∙ s.units;
+            units = in_place ∙ ap (λ (x : Table). map (bank_literal t.basis.bank.terms t.basis.lits) (start_units x.0)) kept ∙ s.units;
             instances = ap (λ (x : Table). x.1) kept ∙ s.instances;
             rule = rule ∙ s.rule;
           }
@@ -227,7 +228,7 @@ module _ (t0 : Tables) (q0 : Queue Planned Delays) where
       units_more : (b : Bool) → is_shallow_literal l ≡ b → (start_in u ≡ shallow (ls ++ l ∷ [])) × (u.steps.1 ≡ [])
       units_more false e =
           let kept = adds.deep e in (
-            in_place ∙ ap (λ (x : Table). map (bank_literal t.basis.bank.terms t.basis.lits) (units x.0)) kept ∙ s.units ∙ sym (longer false e ∙ append-nil (shallow ls)),
+            in_place ∙ ap (λ (x : Table). map (bank_literal t.basis.bank.terms t.basis.lits) (start_units x.0)) kept ∙ s.units ∙ sym (longer false e ∙ append-nil (shallow ls)),
             ap (λ (x : Table). x.1) kept ∙ s.instances,
           )
       units_more true e =
@@ -236,7 +237,7 @@ module _ (t0 : Tables) (q0 : Queue Planned Delays) where
           let one_more : length u.steps.0 ≡ length t.steps.0 + 1 = omega (arith, state_after, steps_before, ap length (longer true e), length-append (shallow ls) (l ∷ [])) in (
             in_place
                 ∙ ap (map d) (units_added lit t.steps u.steps (adds.unit e) one_more)
-                ∙ map-append d (units t.steps.0) (lit ∷ [])
+                ∙ map-append d (start_units t.steps.0) (lit ∷ [])
                 ∙ ap (λ (xs : List Literal). xs ++ l ∷ []) s.units
                 ∙ sym (longer true e),
             (adds.unit e).instances ∙ s.instances,

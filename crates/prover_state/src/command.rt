@@ -9,7 +9,7 @@ use term_bank::Id;
 
 /// A command. Its literals, its terms and its predicates are given by their numbers, a partial term by its number among those that are
 /// parked, and a head by its number in the search's own list.
-#[derive(Clone, Copy, Debug, PartialEq, Eq)]
+#[derive(Clone, Copy, PartialEq, Eq)]
 pub enum Command {
     Process(SatLit),
     Mate(SatLit, SatLit),
@@ -23,7 +23,7 @@ pub enum Command {
 /// Over what a loop of commands goes: the terms of a type for a literal, the universal literals of a type for a term, the partners of a
 /// literal, which is the first or the second one of each command, the heads for a partial term, with so many witnesses, or the
 /// partial terms that take a head.
-#[derive(Clone, Copy, Debug, PartialEq, Eq)]
+#[derive(Clone, Copy, PartialEq, Eq)]
 pub enum Over {
     Terms,
     Universals,
@@ -34,7 +34,7 @@ pub enum Over {
 }
 
 /// The later commands of a loop: those with these places among all that the loop goes over.
-#[derive(Clone, Copy, Debug, PartialEq, Eq)]
+#[derive(Clone, Copy, PartialEq, Eq)]
 pub struct Rest {
     pub over: Over,
     pub next: usize,
@@ -62,7 +62,7 @@ impl Rest {
 }
 
 /// A command with the later ones of its loop, where it is one of a loop.
-#[derive(Clone, Copy, Debug, PartialEq, Eq)]
+#[derive(Clone, Copy, PartialEq, Eq)]
 pub struct Planned {
     pub first: Command,
     pub rest: Option<Rest>,
@@ -84,7 +84,7 @@ impl Planned {
 }
 
 /// How long commands wait.
-#[derive(Clone, Copy, Debug, Drop)]
+#[derive(Clone, Copy, Drop)]
 pub struct Delays {
     pub mode: Mode,
 }

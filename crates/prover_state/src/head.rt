@@ -8,7 +8,7 @@ use stt_core::{Head, Ty};
 
 /// A head that fits a hole of some base type: a variable, a name, a witness, or a constant of the logic, where the quantifiers, the
 /// equalities and the choices are those of base types.
-#[derive(Clone, Copy, Debug, PartialEq, Eq)]
+#[derive(Clone, Copy, PartialEq, Eq)]
 pub enum HoleHead {
     Bound(u32),
     Name(u32),

@@ -11,7 +11,7 @@ use stt_core::Head;
 use term_bank::{Bank, Id, Node};
 
 /// A predicate by which a term chooses or describes a value, where there is one.
-#[derive(Clone, Copy, Debug, PartialEq, Eq)]
+#[derive(Clone, Copy, PartialEq, Eq)]
 pub(crate) enum Selected {
     Chosen(Id),
     Described(Id),

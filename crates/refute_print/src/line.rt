@@ -110,7 +110,6 @@ impl TextLits {
 }
 
 /// A rule with what its instance takes. A number is the place of a principal in the branch, from 0.
-#[derive(Drop)]
 pub enum TextRule {
     False(usize),
     Close(usize, usize),
@@ -129,6 +128,31 @@ pub enum TextRule {
     Cho(TextTerm),
     Des(TextTerm),
     Cut(TextLit),
+}
+
+// Written out, so that a proof takes a drop as one call.
+impl Drop for TextRule {
+    fn drop(self) {
+        match self {
+            TextRule::False(_)
+            | TextRule::Close(_, _)
+            | TextRule::Refl(_)
+            | TextRule::ImpPos(_)
+            | TextRule::ImpNeg(_)
+            | TextRule::BoolPos(_)
+            | TextRule::BoolNeg(_)
+            | TextRule::FunPos(_)
+            | TextRule::FunNeg(_)
+            | TextRule::AllPos(_, _)
+            | TextRule::AllNeg(_)
+            | TextRule::Mat(_, _)
+            | TextRule::Dec(_)
+            | TextRule::Con(_, _)
+            | TextRule::Cho(_)
+            | TextRule::Des(_)
+            | TextRule::Cut(_) => {}
+        }
+    }
 }
 
 /// A line: a branch, and the rule that closes it with the children.

@@ -16,7 +16,6 @@ pub enum TextTy {
 }
 
 /// What stands at the head of a term.
-#[derive(Drop)]
 pub enum TextHead {
     Bound(u32),
     Name(Bytes),
@@ -28,6 +27,24 @@ pub enum TextHead {
     Eq(TextTy),
     Choice(TextTy),
     Desc(TextTy),
+}
+
+// Written out, so that a proof takes a drop as one call.
+impl Drop for TextHead {
+    fn drop(self) {
+        match self {
+            TextHead::Bound(_)
+            | TextHead::Name(_)
+            | TextHead::Wit(_)
+            | TextHead::False
+            | TextHead::Not
+            | TextHead::Imp
+            | TextHead::All(_)
+            | TextHead::Eq(_)
+            | TextHead::Choice(_)
+            | TextHead::Desc(_) => {}
+        }
+    }
 }
 
 /// A term. Contracts see it as the plain tree that it is.

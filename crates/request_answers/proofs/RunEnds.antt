@@ -44,7 +44,7 @@ pub solved-same : (nodes : Option ℕ) (m : Mode) (p : PlainProblem) (a b : Answ
 solved-same nodes m p a b w v h k = same_ends m p a b (end_of nodes m p a w h) (end_of nodes m p b v k)
 
 -- what a schedule that ends so is answered with, but for the refutation
-abbrev pub told_end : PlainProblem → End → Answer
+abbrev told_end : PlainProblem → End → Answer
 told_end p (closed number total) = Proved (claim_of p) total (Some (number + 1)) Unasked []
 told_end p (empty total) = GaveUp total
 told_end p (limit total) = CommandLimit total

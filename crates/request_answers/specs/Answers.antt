@@ -16,7 +16,8 @@ use Rattle.szs_report.specs.declared.outcome.Outcome.{Outcome}
 use Rattle.szs_report.specs.declared.outcome.Outcome.TheVariants as ended
 use Rattle.request_answers.specs.Requested.{problem_name, mode_file, schedule_file, told_of, contents_of}
 use Rattle.request_answers.specs.Files.{OfFiles}
-use Rattle.request_answers.specs.Modes.{IsLongFile, IsModeBy, IsBadMode}
+use Rattle.request_answers.specs.NamedFiles.{IsLongFile}
+use Rattle.request_answers.specs.Modes.{IsModeBy, IsBadMode}
 use Rattle.request_answers.specs.Schedules.{IsScheduleBy, IsBadSchedule}
 use Rattle.request_answers.specs.Checked.{AnswersText}
 use Rattle.request_answers.specs.Compared.{AnswersSides}

@@ -15,7 +15,7 @@ use Rattle.refute_check.specs.Strict.{IsStrictlyAcceptedFor, TextFailsStrictlyAt
 use Rattle.cli_words.specs.declared.Cuts.{Cuts}
 use Rattle.cli_words.specs.declared.Cuts.TheVariants.{Allowed, Forbidden}
 use Rattle.request_answers.specs.Names.{names_in}
-use Rattle.request_answers.specs.Modes.{OfFile, IsLongFile}
+use Rattle.request_answers.specs.NamedFiles.{OfFile, IsLongFile}
 use Rattle.szs_report.specs.declared.answer.NamedFile.TheVariants.{Check}
 use Rattle.szs_report.specs.declared.answer.Answer.{Answer}
 use Rattle.szs_report.specs.declared.answer.Answer.TheVariants.{Accepted, Refused, TooLong, ReadFault, Memory}

@@ -40,6 +40,7 @@ pub use Rattle.type_check.specs.Statements
 pub mod Requested
 pub mod Names
 pub mod Files
+pub mod NamedFiles
 pub mod Modes
 pub mod Schedules
 pub mod Checked

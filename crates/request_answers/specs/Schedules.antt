@@ -1,6 +1,5 @@
 -- The schedule that a problem is proved by.
-use Rattle.std.specs.Prelude.{◌≡◌, ℕ, Bool, List, [], Option, Some, None}
-use Rattle.outside.specs.Lines.{lines_of}
+use Rattle.std.specs.Prelude.{ℕ, Bool, List, [], Option}
 use Rattle.mode_schedule.specs.declared.Block.{Block}
 use Rattle.mode_schedule.specs.declared.refused.ScheduleRefused.{ScheduleRefused}
 use Rattle.mode_schedule.specs.declared.refused.ScheduleRefused.TheVariants as refusal
@@ -8,12 +7,11 @@ use Rattle.mode_schedule.specs.Grammar.{StatesBlocks}
 use Rattle.mode_schedule.specs.Refusals.{RefusesBlocks}
 use Rattle.szs_report.specs.declared.outcome.ScheduleWhy.{ScheduleWhy}
 use Rattle.szs_report.specs.declared.outcome.ScheduleWhy.TheVariants.{UnknownKey, Twice, BadNumber, OutOfRange, NoSlice, TooManyBlocks}
-use Rattle.request_answers.specs.Modes.{OfFile}
+use Rattle.request_answers.specs.NamedFiles.{IsStatedBy, IsRefusedBy}
 
 -- the blocks that a file states, or none where no file is named
 abbrev pub IsScheduleBy : Bool → (List ℕ → Option (List ℕ)) → Option (List ℕ) → List Block → Type 0
-IsScheduleBy told contents None blocks = blocks ≡ []
-IsScheduleBy told contents (Some file) blocks = OfFile told contents file (λ bytes. StatesBlocks (lines_of bytes) blocks)
+IsScheduleBy told contents file blocks = IsStatedBy StatesBlocks [] told contents file blocks
 
 -- the refusal of a schedule's line, for a cause
 abbrev pub refused_schedule_at : ScheduleWhy → ℕ → ScheduleRefused
@@ -26,5 +24,4 @@ refused_schedule_at TooManyBlocks line = refusal.TooManyBlocks line
 
 -- a file is named, and this line of it is the first bad one, for this cause
 abbrev pub IsBadSchedule : Bool → (List ℕ → Option (List ℕ)) → Option (List ℕ) → ℕ → ScheduleWhy → Type 0
-IsBadSchedule told contents None line why = ⊥
-IsBadSchedule told contents (Some file) line why = OfFile told contents file (λ bytes. RefusesBlocks (lines_of bytes) (refused_schedule_at why line))
+IsBadSchedule told contents file line why = IsRefusedBy RefusesBlocks told contents file (refused_schedule_at why line)

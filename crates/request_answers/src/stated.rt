@@ -58,13 +58,13 @@ fn refused_answer(names: FileNames, refused: GatherRefused) -> Answer
 }
 
 /// The problem that statements from files of these names state, or what they are answered with.
-fn check_problem(alloc: Global, gathered: &Gathered, names: FileNames) -> Result<Problem, Answer>
-    requires few { length gathered.now < 2 ^ 32 - 2 }
-    requires printable { AllDeclared IsPrintable (the_statements gathered.now) }
-    requires modest { (p : PlainProblem) → problem_of (the_statements gathered.now) ≡ Ok p → IsModestProblem 1024 p }
-    ensures stated { IfOk result (λ p. problem_of (the_statements gathered.now) ≡ Ok p) }
+fn check_problem(alloc: Global, gathered: Gathered, names: FileNames) -> Result<Problem, Answer>
+    requires few { length gathered < 2 ^ 32 - 2 }
+    requires printable { AllDeclared IsPrintable (the_statements gathered) }
+    requires modest { (p : PlainProblem) → problem_of (the_statements gathered) ≡ Ok p → IsModestProblem 1024 p }
+    ensures stated { IfOk result (λ p. problem_of (the_statements gathered) ≡ Ok p) }
     ensures texts { IfOk result (λ p. HasTexts p) }
-    ensures ill { IfErr result (IsIllProblem names (the_statements gathered.now)) }
+    ensures ill { IfErr result (IsIllProblem names (the_statements gathered)) }
 {
     match check(alloc, gathered) {
         Ok(problem) => Ok(problem),
@@ -99,7 +99,7 @@ pub(crate) fn read_problem<F: Files>(
 {
     let mut names = FileNames::new(alloc);
     match gather(alloc, files, &mut names, name) {
-        Ok(gathered) => check_problem(alloc, &gathered, names),
+        Ok(gathered) => check_problem(alloc, gathered, names),
         Err(refused) => Err(refused_answer(names, refused)),
     }
 }

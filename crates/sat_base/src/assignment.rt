@@ -6,7 +6,7 @@ use std::alloc::{AllocError, Global};
 use std::marker::Model;
 
 /// A value for each variable below a number: entry k is the value of variable k.
-#[derive(Debug, Drop)]
+#[derive(Drop)]
 pub struct Assignment {
     values: Vec<bool>,
 }

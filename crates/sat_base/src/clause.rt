@@ -12,7 +12,7 @@ use std::slice;
 const INLINE: usize = 4;
 
 /// A clause: the disjunction of its literals, in their order.
-#[derive(Debug, Drop)]
+#[derive(Drop)]
 pub struct Clause {
     literals: SmallVec<SatLit, INLINE>,
 }

@@ -6,7 +6,7 @@ use std::alloc::{AllocError, Global};
 use std::marker::Model;
 
 /// A list of clauses. A clause is named by its number, from 0.
-#[derive(Debug, Drop)]
+#[derive(Drop)]
 pub struct ClauseStore {
     clauses: Vec<Clause>,
 }

@@ -16,7 +16,7 @@ use std::alloc::{AllocError, Global};
 const MOST_CHANGES: usize = 64;
 
 /// A value for each variable: so many clauses are in the table of uses, and so many are true.
-#[derive(Debug, Drop)]
+#[derive(Drop)]
 pub struct Keeper {
     alloc: Global,
     pub values: Vec<bool>,

@@ -35,7 +35,7 @@ pub enum Answer {
 /// Clauses and the log of what was learned from them, with a propagator into which they are inserted when the next
 /// answer is looked for: so many of the clauses and of the log's results are in it, and each of its clauses has the
 /// name of the one that it is.
-#[derive(Debug, Drop)]
+#[derive(Drop)]
 pub struct Learner {
     alloc: Global,
     pub clauses: ClauseStore,

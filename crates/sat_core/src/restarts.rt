@@ -1,7 +1,7 @@
 //! When to start again from the root.
 
 /// After how many conflicts to go back to the root: a unit times 1, 1, 2, 1, 1, 2, 4, 1, 1, 2, ...
-#[derive(Clone, Copy, Debug)]
+#[derive(Clone, Copy)]
 pub struct Restarts {
     round: u64,
     factor: u64,

@@ -17,7 +17,7 @@ use std::marker::Model;
 
 /// Clauses to which more can be added between two answers, and the log of what was learned from them. Nothing that was
 /// learned is forgotten. Where few of the last values have to change for the clauses that were added, no search begins.
-#[derive(Debug, Drop)]
+#[derive(Drop)]
 pub struct Solver {
     learner: Learner,
     keeper: Keeper,

@@ -6,7 +6,7 @@ use sat_propagate::{Packed, Propagator};
 use std::alloc::{AllocError, Global};
 
 /// What is known of a variable's literal: nothing, that it follows from marked ones, or that it doesn't.
-#[derive(Clone, Copy, Debug, PartialEq, Eq)]
+#[derive(Clone, Copy, PartialEq, Eq)]
 enum Known {
     Nothing,
     Follows,
@@ -14,7 +14,7 @@ enum Known {
 }
 
 /// A variable whose reason is read, and how many of the reason's literals were read.
-#[derive(Clone, Copy, Debug)]
+#[derive(Clone, Copy)]
 struct Visit {
     var: Var,
     read: usize,
@@ -28,7 +28,7 @@ enum Found {
 
 /// What is known of each variable while a clause is made shorter, and the places of the literals that follow. Its lists
 /// are kept from one clause to the next. Nothing rests on what they say.
-#[derive(Debug, Drop)]
+#[derive(Drop)]
 pub struct Spares {
     known: Vec<Known>,
     judged: Vec<Var>,

@@ -9,7 +9,7 @@ use std::alloc::{AllocError, Global};
 use std::marker::Model;
 
 /// The numbers of the clauses in which a variable occurs.
-#[derive(Debug, Drop)]
+#[derive(Drop)]
 pub struct Numbers {
     numbers: Vec<usize>,
 }
@@ -23,7 +23,7 @@ impl Model for Numbers {
 }
 
 /// For each variable the numbers of the clauses in which it occurs.
-#[derive(Debug, Drop)]
+#[derive(Drop)]
 pub struct Uses {
     alloc: Global,
     entries: Vec<Numbers>,

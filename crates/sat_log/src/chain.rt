@@ -6,27 +6,27 @@ use std::alloc::{AllocError, Global};
 use std::marker::Model;
 
 /// What a step of a chain resolves with: a clause of a store or an earlier result of a log, by its number.
-#[derive(Clone, Copy, Debug, PartialEq, Eq)]
+#[derive(Clone, Copy, PartialEq, Eq)]
 pub enum Premise {
     Clause(usize),
     Result(usize),
 }
 
 /// Resolution on a variable, of what a chain has so far with a premise.
-#[derive(Clone, Copy, Debug, PartialEq, Eq)]
+#[derive(Clone, Copy, PartialEq, Eq)]
 pub struct ChainStep {
     pub var: Var,
     pub premise: Premise,
 }
 
 /// The steps of a chain, in their order.
-#[derive(Debug, Drop)]
+#[derive(Drop)]
 pub struct ChainSteps {
     steps: Vec<ChainStep>,
 }
 
 /// A premise to start with, and the steps from there.
-#[derive(Debug, Drop)]
+#[derive(Drop)]
 pub struct Chain {
     pub first: Premise,
     pub steps: ChainSteps,

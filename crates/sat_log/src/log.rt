@@ -10,7 +10,7 @@ use std::alloc::{AllocError, Global};
 use std::marker::Model;
 
 /// A chain with its result.
-#[derive(Debug, Drop)]
+#[derive(Drop)]
 pub struct LogEntry {
     pub chain: Chain,
     pub result: Clause,
@@ -20,7 +20,7 @@ pub struct LogEntry {
 ///
 /// It keeps a mark for each variable up to the greatest one that a chain with steps met, so that to push a chain takes
 /// time near the number of literals of its premises, however long the store and the log are.
-#[derive(Debug, Drop)]
+#[derive(Drop)]
 pub struct Log {
     alloc: Global,
     entries: Vec<LogEntry>,

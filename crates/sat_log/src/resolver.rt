@@ -13,7 +13,7 @@ use std::alloc::{AllocError, Global};
 use std::marker::Model;
 
 /// A literal that was put into the clause, and how many were put there before it.
-#[derive(Clone, Copy, Debug)]
+#[derive(Clone, Copy)]
 pub struct Placed {
     pub literal: SatLit,
     pub stamp: usize,
@@ -21,7 +21,7 @@ pub struct Placed {
 
 /// A clause whose literals are moved to its front and to its back. A placed literal counts only where the table has
 /// its number, so that to move or to remove a literal takes no walk over the others.
-#[derive(Debug, Drop)]
+#[derive(Drop)]
 pub struct Resolver {
     alloc: Global,
     front: Vec<Placed>,

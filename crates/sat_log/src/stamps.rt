@@ -6,7 +6,7 @@ use std::alloc::{AllocError, Global};
 use std::marker::Model;
 
 /// The numbers of the two literals on a variable.
-#[derive(Clone, Copy, Debug)]
+#[derive(Clone, Copy)]
 pub struct Stamps {
     pub positive: Option<usize>,
     pub negative: Option<usize>,
@@ -20,7 +20,7 @@ impl Stamps {
 }
 
 /// An entry for each variable up to the greatest one that had a number.
-#[derive(Debug, Drop)]
+#[derive(Drop)]
 pub struct StampTable {
     entries: Vec<Stamps>,
 }

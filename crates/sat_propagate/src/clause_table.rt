@@ -9,7 +9,7 @@ use std::alloc::{AllocError, Global};
 use std::marker::Model;
 
 /// A clause's watched literals, or twice one of it where it watches none, and where its literals stand.
-#[derive(Clone, Copy, Debug)]
+#[derive(Clone, Copy)]
 pub struct Head {
     pub first: Packed,
     pub second: Packed,
@@ -35,7 +35,7 @@ impl Head {
 }
 
 /// Clauses by their numbers, with their literals one after the other.
-#[derive(Debug, Drop)]
+#[derive(Drop)]
 pub struct ClauseTable {
     heads: Vec<Head>,
     literals: Vec<Packed>,

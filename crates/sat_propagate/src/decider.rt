@@ -8,7 +8,7 @@ use sat_base::Var;
 use std::alloc::{AllocError, Global};
 
 /// A variable's score, its place in the heap if it is there, and the value that it is given where it is decided.
-#[derive(Clone, Copy, Debug)]
+#[derive(Clone, Copy)]
 struct Standing {
     score: u64,
     place: Option<usize>,
@@ -17,7 +17,7 @@ struct Standing {
 
 /// Proposes variables, those that took part in recent conflicts first, and of two with equal scores the newer one. The
 /// heap has variables that may be open: none comes before the one above it. Nothing rests on what is proposed.
-#[derive(Debug, Drop)]
+#[derive(Drop)]
 pub struct Decider {
     heap: Vec<Var>,
     standings: Vec<Standing>,

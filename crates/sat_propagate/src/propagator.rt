@@ -32,7 +32,7 @@ pub enum Finding {
 }
 
 /// How a search ended: all variables have values, or a clause is false.
-#[derive(Clone, Copy, Debug)]
+#[derive(Clone, Copy)]
 pub enum Ended {
     Full,
     False(usize),
@@ -46,7 +46,7 @@ pub enum Visited {
 }
 
 /// Clauses in the order in which they were inserted, with a trail.
-#[derive(Debug, Drop)]
+#[derive(Drop)]
 pub struct Propagator {
     pub trail: Trail,
     pub processed: usize,

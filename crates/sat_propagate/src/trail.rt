@@ -10,14 +10,14 @@ use std::alloc::{AllocError, Global};
 use std::marker::Model;
 
 /// A literal that was made true: by a clause, named by its number, or by a decision.
-#[derive(Clone, Copy, Debug)]
+#[derive(Clone, Copy)]
 pub struct Step {
     pub literal: SatLit,
     pub reason: Option<usize>,
 }
 
 /// What is known of a variable: whether it has a value, its place on the trail if it has, and its last value.
-#[derive(Clone, Copy, Debug)]
+#[derive(Clone, Copy)]
 pub struct Cell {
     pub assigned: bool,
     pub positive: bool,
@@ -34,7 +34,7 @@ impl Cell {
 
 /// The trail: the literals that are true, and the places of the decisions. Propagation reads which literals are true in a
 /// table of bytes.
-#[derive(Debug, Drop)]
+#[derive(Drop)]
 pub struct Trail {
     steps: Vec<Step>,
     starts: Vec<usize>,

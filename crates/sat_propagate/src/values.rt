@@ -9,7 +9,7 @@ use std::alloc::{AllocError, Global};
 use std::marker::Model;
 
 /// A byte for each literal, by its number as it is packed: whether it is true.
-#[derive(Debug, Drop)]
+#[derive(Drop)]
 pub struct Values {
     bytes: Vec<bool>,
 }

@@ -10,14 +10,14 @@ use std::alloc::{AllocError, Global};
 use std::marker::Model;
 
 /// A clause that watches a literal, and some literal of it: where that one is true, the clause is.
-#[derive(Clone, Copy, Debug)]
+#[derive(Clone, Copy)]
 pub struct Watch {
     pub clause: u32,
     pub blocker: Packed,
 }
 
 /// The clauses that watch the two literals on a variable.
-#[derive(Debug, Drop)]
+#[derive(Drop)]
 pub struct Watchers {
     pub positive: Vec<Watch>,
     pub negative: Vec<Watch>,
@@ -32,7 +32,7 @@ impl Model for Watchers {
 }
 
 /// An entry for each variable.
-#[derive(Debug, Drop)]
+#[derive(Drop)]
 pub struct WatchLists {
     alloc: Global,
     entries: Vec<Watchers>,

@@ -24,7 +24,8 @@ use Rattle.szs_report.specs.declared.outcome.ModeWhy.TheVariants.{UnknownKey, Tw
 use Rattle.szs_report.specs.declared.outcome.ScheduleWhy.{ScheduleWhy}
 use Rattle.szs_report.specs.declared.outcome.ScheduleWhy.TheVariants as why
 use Rattle.request_answers.specs.Requested.{problem_name, mode_file, schedule_file, told_of, contents_of}
-use Rattle.request_answers.specs.Modes.{OfFile, IsLongFile, IsModeBy, refused_at, IsBadMode}
+use Rattle.request_answers.specs.NamedFiles.{OfFile, IsLongFile}
+use Rattle.request_answers.specs.Modes.{IsModeBy, refused_at, IsBadMode}
 use Rattle.request_answers.specs.Schedules.{IsScheduleBy, refused_schedule_at, IsBadSchedule}
 use Rattle.outside.specs.Limits.{byte_limit}
 use Rattle.request_answers.specs.Internal.RefusedModes.{mode_answer}

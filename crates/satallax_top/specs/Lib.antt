@@ -21,6 +21,7 @@ pub use Rattle.request_answers.specs.Compared
 pub use Rattle.request_answers.specs.Modelled
 pub use Rattle.request_answers.specs.Files
 pub use Rattle.request_answers.specs.Modes
+pub use Rattle.request_answers.specs.NamedFiles
 pub use Rattle.request_answers.specs.Names
 pub use Rattle.request_answers.specs.Requested
 pub use Rattle.request_answers.specs.Schedules

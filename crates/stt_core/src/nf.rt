@@ -8,7 +8,6 @@ use std::alloc::{AllocError, Global};
 use std::marker::Model;
 
 /// What stands at the head of a canonical term: what a term has that is neither a function nor an application.
-#[derive(Drop)]
 pub enum Head {
     Bound(u32),
     Name(u32),
@@ -20,6 +19,24 @@ pub enum Head {
     Eq(Ty),
     Choice(Ty),
     Desc(Ty),
+}
+
+// Written out, so that a proof takes a drop as one call.
+impl Drop for Head {
+    fn drop(self) {
+        match self {
+            Head::Bound(_)
+            | Head::Name(_)
+            | Head::Wit(_)
+            | Head::False
+            | Head::Not
+            | Head::Imp
+            | Head::All(_)
+            | Head::Eq(_)
+            | Head::Choice(_)
+            | Head::Desc(_) => {}
+        }
+    }
 }
 
 /// A canonical term: binders, the outermost first, over a head with its arguments. Contracts see it as the term that it is.

@@ -168,7 +168,7 @@ pub struct Signature {
 }
 
 /// What a name stands for: a base type by its number, which is at least 2, or a constant by its place.
-#[derive(Clone, Copy, Debug, PartialEq, Eq)]
+#[derive(Clone, Copy, PartialEq, Eq)]
 pub enum Symbol {
     Base(u32),
     Const(u32),

@@ -13,7 +13,7 @@ use thf_include::FileNames;
 use type_check::IllWhy;
 
 /// What a refutation of a problem's start shows.
-#[derive(Clone, Copy, Debug, PartialEq, Eq)]
+#[derive(Clone, Copy, PartialEq, Eq)]
 pub enum Claim {
     /// The conjecture follows from the axioms.
     Theorem,
@@ -22,7 +22,7 @@ pub enum Claim {
 }
 
 /// What came of a tree without cut. A tree that has been asked for is made of the instances that the refutation uses.
-#[derive(Clone, Copy, Debug, PartialEq, Eq)]
+#[derive(Clone, Copy, PartialEq, Eq)]
 pub enum TreeReport {
     /// None was asked for.
     Unasked,

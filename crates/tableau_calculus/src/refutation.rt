@@ -12,7 +12,6 @@ use thiserror::Error;
 /// literals, the branch goes on. Each line ends with the rule's source, and its name there where it has one: C. E. Brown, G. Smolka,
 /// *Analytic tableaux for simple type theory and its first-order fragment*, 2010, or J. Backes, C. E. Brown, *Analytic tableaux for
 /// higher-order logic with choice*, 2011. The table is `specs/Rules`.
-#[derive(Drop)]
 pub enum RuleUse {
     /// The principal is falsity. There is no alternative: the branch is closed (this project's form of the rules for connectives).
     False(usize),
@@ -67,8 +66,33 @@ pub enum RuleUse {
     Cut(Lit),
 }
 
+// Written out, so that a proof takes a drop as one call.
+impl Drop for RuleUse {
+    fn drop(self) {
+        match self {
+            RuleUse::False(_)
+            | RuleUse::Close(_, _)
+            | RuleUse::Refl(_)
+            | RuleUse::ImpPos(_)
+            | RuleUse::ImpNeg(_)
+            | RuleUse::BoolPos(_)
+            | RuleUse::BoolNeg(_)
+            | RuleUse::FunPos(_)
+            | RuleUse::FunNeg(_)
+            | RuleUse::AllPos(_, _)
+            | RuleUse::AllNeg(_)
+            | RuleUse::Mat(_, _)
+            | RuleUse::Dec(_)
+            | RuleUse::Con(_, _)
+            | RuleUse::Cho(_)
+            | RuleUse::Des(_)
+            | RuleUse::Cut(_) => {}
+        }
+    }
+}
+
 /// What closes a branch with an alternative: a literal and its negation in it, or an earlier line by its number.
-#[derive(Clone, Copy, Debug, PartialEq, Eq)]
+#[derive(Clone, Copy, PartialEq, Eq)]
 pub enum Child {
     Closed,
     Line(usize),

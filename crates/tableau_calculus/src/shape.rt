@@ -8,7 +8,7 @@ ghost use Rattle.tableau_calculus.specs.Internal.Heads.{connective_of};
 use stt_core::{Head, Nf};
 
 /// A connective of the calculus.
-#[derive(Clone, Copy, Debug, PartialEq, Eq)]
+#[derive(Clone, Copy, PartialEq, Eq)]
 pub enum Connective {
     False,
     Not,

@@ -1,5 +1,5 @@
 -- What a table of steps holds: clauses, each with where it comes from, and instances of rules.
-use Rattle.std.specs.Prelude.{◌≡◌, ◌<◌, ◌≤◌, ℕ, List, [], ◌∷◌, map, Some, slice_get, Contains}
+use Rattle.std.specs.Prelude.{◌≡◌, ◌<◌, ◌≤◌, ℕ, List, [], ◌∷◌, ◌++◌, map, Some, slice_get, Contains}
 use Rattle.sat_base.specs.declared.literal.SatLit.{SatLit}
 use Rattle.literal_map.specs.declared.instance.Instance.{Instance}
 use Rattle.search_spec.specs.Clauses.{instance_clauses}
@@ -28,6 +28,16 @@ the_origins t = origins_in t.0
 
 abbrev pub the_instances : Table → List Instance
 the_instances t = t.1
+
+-- the literals of a clause of the start, and of another one none
+abbrev pub units_in : List SatLit → Origin → List SatLit
+units_in clause Start = clause
+units_in clause (From k) = []
+
+-- the literals of the start units, in order
+abbrev pub start_units : List Step → List SatLit
+start_units [] = []
+start_units (s ∷ steps) = units_in s.0 s.1 ++ start_units steps
 
 -- the clause comes from there: a start unit is one literal, and another clause is one of its instance's
 abbrev pub ComesFromOrigin : List Instance → List SatLit → Origin → Type 0

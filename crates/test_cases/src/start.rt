@@ -83,8 +83,7 @@ fn problem_in<F: Files>(alloc: Global, files: &mut F, name: &str) -> anyhow::Res
     let Ok(gathered) = gather(alloc, files, &mut names, name) else {
         bail!("the files aren't gathered");
     };
-    let checked = check(alloc, &gathered);
-    drop(gathered);
+    let checked = check(alloc, gathered);
     match checked {
         Ok(problem) => Ok(problem),
         Err(_) => bail!("the problem isn't read"),

@@ -1,7 +1,7 @@
 //! Connectives and binders.
 
 /// A connective: `~`, `&`, `|`, `=>`, `<=`, `<=>`, `<~>`, `~|` and `~&`, in this order.
-#[derive(Clone, Copy, Debug, PartialEq, Eq)]
+#[derive(Clone, Copy, PartialEq, Eq)]
 pub enum Conn {
     Not,
     And,
@@ -15,7 +15,7 @@ pub enum Conn {
 }
 
 /// A binder: `!`, `?`, `^`, `@+` and `@-`, in this order.
-#[derive(Clone, Copy, Debug, PartialEq, Eq)]
+#[derive(Clone, Copy, PartialEq, Eq)]
 pub enum Binder {
     All,
     Exists,

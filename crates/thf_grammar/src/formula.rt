@@ -8,7 +8,7 @@ use std::alloc::{AllocError, Global};
 
 /// A formula or another term. Each `at` is the byte place of the node's own token. Parentheses are no
 /// nodes.
-#[derive(Debug, Drop)]
+#[derive(Drop)]
 pub enum Surface {
     Name {
         at: u32,

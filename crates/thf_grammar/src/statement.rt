@@ -8,7 +8,6 @@ use std::alloc::{AllocError, Global};
 use std::marker::Model;
 
 /// What an annotated formula says. In `Base` and `Typing`, `at` is the byte place of the name.
-#[derive(Debug, Drop)]
 pub enum Body {
     /// Declares a base type.
     Base { at: u32, name: Bytes },
@@ -17,8 +16,23 @@ pub enum Body {
     Formula(Surface),
 }
 
+// Written out, so that a proof takes a drop as one call.
+impl Drop for Body {
+    fn drop(self) {
+        match self {
+            Body::Base { at: _, name: _ }
+            | Body::Typing {
+                at: _,
+                name: _,
+                ty: _,
+            }
+            | Body::Formula(_) => {}
+        }
+    }
+}
+
 /// An annotated formula. Notes are read and not kept.
-#[derive(Debug, Drop)]
+#[derive(Drop)]
 pub struct Annotated {
     pub name: Bytes,
     pub role: Bytes,
@@ -27,14 +41,14 @@ pub struct Annotated {
 }
 
 /// A name in the selection of an include.
-#[derive(Debug, Drop)]
+#[derive(Drop)]
 pub struct Selected {
     pub at: u32,
     pub name: Bytes,
 }
 
 /// The selected names of an include, in their order.
-#[derive(Debug, Drop)]
+#[derive(Drop)]
 pub struct Selection {
     items: Vec<Selected>,
 }
@@ -73,7 +87,7 @@ impl Selection {
 }
 
 /// A statement. In `Include`, `at` is the byte place of the file's name.
-#[derive(Debug, Drop)]
+#[derive(Drop)]
 pub enum Statement {
     Annotated(Annotated),
     Include {
@@ -84,7 +98,7 @@ pub enum Statement {
 }
 
 /// The statements of a file, in their order.
-#[derive(Debug, Drop)]
+#[derive(Drop)]
 pub struct FileTree {
     items: Vec<Statement>,
 }

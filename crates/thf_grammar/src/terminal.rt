@@ -5,7 +5,7 @@ ghost use Rattle.thf_grammar.specs.Internal.Marks.{is_mark, same_mark};
 use crate::connective::{Binder, Conn};
 
 /// A mark: `(`, `)`, `[`, `]`, `,`, `.`, `:`, `>` and `@`, in this order.
-#[derive(Clone, Copy, Debug)]
+#[derive(Clone, Copy)]
 pub enum Mark {
     Open,
     Close,
@@ -38,7 +38,7 @@ impl Mark {
 }
 
 /// A token, as the grammar sees it.
-#[derive(Clone, Copy, Debug)]
+#[derive(Clone, Copy)]
 pub enum Terminal {
     Mark(Mark),
     Conn(Conn),

@@ -5,7 +5,7 @@ use std::alloc::{AllocError, Global};
 use std::marker::Model;
 
 /// What a token is. Which symbol or which dollar word it is follows from its bytes.
-#[derive(Clone, Copy, Debug, PartialEq, Eq)]
+#[derive(Clone, Copy, PartialEq, Eq)]
 pub enum TokenKind {
     Lower,
     Upper,
@@ -21,7 +21,7 @@ pub enum TokenKind {
 }
 
 /// A token from the byte `from` up to, but not including, the byte `to`.
-#[derive(Clone, Copy, Debug, PartialEq, Eq)]
+#[derive(Clone, Copy, PartialEq, Eq)]
 pub struct Token {
     pub kind: TokenKind,
     pub from: u32,
@@ -29,7 +29,7 @@ pub struct Token {
 }
 
 /// Tokens in their order.
-#[derive(Debug, Drop)]
+#[derive(Drop)]
 pub struct Tokens {
     items: Vec<Token>,
 }

@@ -6,7 +6,7 @@ use std::alloc::{AllocError, Global};
 use std::marker::Model;
 
 /// A type. Each `at` is the byte place of the node's own token.
-#[derive(Debug, Drop)]
+#[derive(Drop)]
 pub enum SurfaceTy {
     /// `$o`, or `$oType`.
     Form {
@@ -45,7 +45,7 @@ impl SurfaceTy {
 }
 
 /// A variable of a binder. One without a type has `Indiv` at its own place.
-#[derive(Debug, Drop)]
+#[derive(Drop)]
 pub struct SurfaceVar {
     pub at: u32,
     pub name: Bytes,
@@ -53,7 +53,7 @@ pub struct SurfaceVar {
 }
 
 /// The variables of a binder, in their order.
-#[derive(Debug, Drop)]
+#[derive(Drop)]
 pub struct SurfaceVars {
     items: Vec<SurfaceVar>,
 }

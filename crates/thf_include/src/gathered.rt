@@ -7,14 +7,14 @@ use std::marker::Model;
 use thf_grammar::Annotated;
 
 /// A statement, and the number of its file: its place among the names of the problem's files, from 0.
-#[derive(Debug, Drop)]
+#[derive(Drop)]
 pub struct Placed {
     pub file: u32,
     pub statement: Annotated,
 }
 
 /// The statements of a problem, in their order.
-#[derive(Debug, Drop)]
+#[derive(Drop)]
 pub struct Gathered {
     items: Vec<Placed>,
 }
@@ -70,7 +70,8 @@ impl Gathered {
         &self.items
     }
 
-    pub(crate) fn into_items(self) -> Vec<Placed>
+    /// The statements as a list, in their order.
+    pub fn into_items(self) -> Vec<Placed>
         ensures { result.items ≡ self }
     {
         self.items

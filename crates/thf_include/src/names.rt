@@ -7,7 +7,7 @@ use std::alloc::{AllocError, Global};
 use std::marker::Model;
 
 /// The names of a problem's files, in the order in which the files are opened.
-#[derive(Debug, Drop)]
+#[derive(Drop)]
 pub struct FileNames {
     items: Vec<Bytes>,
 }

@@ -6,7 +6,7 @@ ghost use Rattle.thf_syntax.specs.Slots as spec;
 use thf_grammar::{Conn, Surface};
 
 /// Where in the grammar a formula stands inside another.
-#[derive(Clone, Copy, Debug)]
+#[derive(Clone, Copy)]
 pub enum Slot {
     /// To the left of `=` or `!=`.
     Primary,

@@ -32,11 +32,11 @@ fn read_placed(alloc: Global, reading: Reading, placed: &Placed) -> Result<Readi
     }
 }
 
-/// Reads the statements of a problem, in their order.
-pub fn check(alloc: Global, gathered: &Gathered) -> Result<Problem, Ill>
-    requires { length gathered.now < 2 ^ 32 - 2 }
-    ensures read { IfOk result (λ p. problem_of (the_statements gathered.now) ≡ Ok p) }
-    ensures ill { IfErr result (λ e. IsIll e (problem_of (the_statements gathered.now))) }
+/// Reads the statements of a problem, in their order. Each is let go once it is read, so that its tree and its term are held together.
+pub fn check(alloc: Global, gathered: Gathered) -> Result<Problem, Ill>
+    requires { length gathered < 2 ^ 32 - 2 }
+    ensures read { IfOk result (λ p. problem_of (the_statements gathered) ≡ Ok p) }
+    ensures ill { IfErr result (λ e. IsIll e (problem_of (the_statements gathered))) }
 
     // What is read is typed, its names differ, and each assumed formula has a mark.
     ensures typed { IfOk result (λ p. IsTyped p) }
@@ -46,8 +46,8 @@ pub fn check(alloc: Global, gathered: &Gathered) -> Result<Problem, Ill>
     ensures few_consts { IfOk result (λ p. length p.declared.consts < 2 ^ 32) }
 {
     let mut reading = Reading::new(alloc);
-    for i in 0..gathered.len() {
-        reading = read_placed(alloc, reading, gathered.at(i))?;
+    for placed in gathered.into_items() {
+        reading = read_placed(alloc, reading, &placed)?;
     }
     Ok(Problem {
         signature: reading.declared.into_signature(),

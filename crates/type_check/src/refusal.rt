@@ -30,7 +30,7 @@ pub enum IllWhy {
 }
 
 /// Why a statement isn't read: its first type error, or memory ran out.
-#[derive(Clone, Copy, Debug, PartialEq, Eq)]
+#[derive(Clone, Copy, PartialEq, Eq)]
 pub(crate) enum Refusal {
     At { at: u32, why: IllWhy },
     Memory,

@@ -1,18 +1,15 @@
 -- Tables of a run.
-use Rattle.std.specs.Prelude.{◌≡◌, ◌≤◌, List, [], ◌∷◌, ◌++◌, map, length, Some}
+use Rattle.std.specs.Prelude.{◌≡◌, ◌≤◌, List, [], map, length, Some}
 use Rattle.stt_core.specs.Typing.{IsScope}
 use Rattle.tableau_calculus.specs.Literals.{Literal, IsBranch}
 use Rattle.tableau_calculus.specs.Witnesses.{with_rows}
-use Rattle.sat_base.specs.declared.literal.SatLit.{SatLit}
 use Rattle.mode_file.specs.declared.Mode.{Mode}
 use Rattle.mode_file.specs.Given.{IsInRange}
 use Rattle.command_queue.specs.Queue.{Queue}
 use Rattle.search_spec.specs.Each.{Each}
 use Rattle.search_spec.specs.After.{state_after}
 use Rattle.literal_map.specs.Atoms.{bank_literal}
-use Rattle.tableau_clauses.specs.declared.origin.Origin.{Origin}
-use Rattle.tableau_clauses.specs.declared.origin.Origin.TheVariants.{Start, Instance as From}
-use Rattle.tableau_clauses.specs.Table.{Step}
+use Rattle.tableau_clauses.specs.Table.{start_units}
 use Rattle.type_bound.specs.Modest.{IsModestLiteral, IsModestSetting}
 use Rattle.prover_state.specs.declared.command.Planned.{Planned}
 use Rattle.prover_state.specs.declared.command.Delays.{Delays}
@@ -20,19 +17,9 @@ use Rattle.prover_state.specs.declared.tables.Tables.{Tables}
 use Rattle.prover_state.specs.Internal.Standing.{without_witnesses, setting_by, the_state, IsRightState}
 use Rattle.prover_state.specs.Internal.Steps.{IsMadeInstance}
 
--- the literals of a clause of the start, and of another one none
-abbrev pub unit_of_origin : List SatLit → Origin → List SatLit
-unit_of_origin clause Start = clause
-unit_of_origin clause (From k) = []
-
--- the start units, in order
-abbrev pub units : List Step → List SatLit
-units [] = []
-units (s ∷ steps) = unit_of_origin s.0 s.1 ++ units steps
-
 -- the literals of the start units, in order
 abbrev pub start_in : Tables → List Literal
-start_in t = map (bank_literal t.basis.bank.terms t.basis.lits) (units t.steps.0)
+start_in t = map (bank_literal t.basis.bank.terms t.basis.lits) (start_units t.steps.0)
 
 -- The tables and the commands that wait are right, and they stand for the state of the run from their start units after as many commands
 -- as were carried out. The numbers of the mode are within their ranges, the commands are at most as many as it allows, and at most one

@@ -11,7 +11,8 @@ use Rattle.szs_report.specs.declared.answer.Answer.{Answer}
 use Rattle.szs_report.specs.declared.answer.Answer.TheVariants.{Accepted, TypeAt, ModeAt, ScheduleAt, TooLong, ReadFault, Memory}
 use Rattle.szs_report.specs.declared.answer.NamedFile.TheVariants.{Part, Mode, Schedule}
 use Rattle.request_answers.specs.Files.{OfFiles}
-use Rattle.request_answers.specs.Modes.{OfFile, IsLongFile, refused_at}
+use Rattle.request_answers.specs.NamedFiles.{OfFile, IsLongFile}
+use Rattle.request_answers.specs.Modes.{refused_at}
 use Rattle.request_answers.specs.Schedules.{refused_schedule_at}
 use Rattle.request_answers.specs.Answers.{stop_answer, AnswersEnding}
 

@@ -3,7 +3,7 @@ use Rattle.sat_base.specs.declared.literal.SatLit.{SatLit}
 use Rattle.sat_base.specs.Literal.{IsOver}
 use Rattle.witness_names.specs.Rows.{rows_of}
 use Rattle.tableau_rebuild.specs.Tables.{no_literal}
-use Rattle.plain_tableau.specs.Tables.{start_units}
+use Rattle.tableau_clauses.specs.Table.{start_units}
 use Rattle.plain_tableau.specs.Internal.Due.{IsPath, AreLiteralsOver}
 use Rattle.plain_tableau.proofs.ExpandLaws.{used_within, used_over, units_over, added_more}
 use Rattle.plain_tableau.proofs.expand.start_path.Goals as goal

@@ -6,4 +6,4 @@ pub returns-in-Ok-clause-texts : goal.returns-in-Ok-clause-texts
 returns-in-Ok-clause-texts c =
     let p = c.in-Ok.problem in
     let read = c.in-Ok.ensures.read in
-    stated_has_texts (the_statements c.args.gathered.now) p read (c.requires.modest p read) c.requires.printable
+    stated_has_texts (the_statements c.args.gathered) p read (c.requires.modest p read) c.requires.printable
