@@ -1,6 +1,6 @@
 -- Default terms as applied heads.
-use Rattle.std.specs.Prelude.{◌≡◌, ◌&&◌, ℕ, Bool, true, false, List, [], ◌∷◌, map, slice_get, length, Some, refl}
-use Rattle.std.proofs.Common.{ap, ap₂, ◌∙◌, arith}
+use Rattle.std.specs.Prelude.{◌≡◌, ◌&&◌, ℕ, false, List, [], ◌∷◌, map, slice_get, length, Some, refl}
+use Rattle.std.proofs.Common.{ap, arith}
 use Rattle.std.proofs.lemmas.Option.{same_Some}
 use Rattle.stt_core.specs.Lambda.{Lambda, bound, constant, lam, app, applied}
 use Rattle.stt_core.proofs.SpineLaws.{IsAtom}

@@ -32,7 +32,7 @@ plain_logical : (scope : Scope) → Each IsPlain (logical_heads scope zero)
 plain_logical scope =
     let f : SimpleType → Lambda = λ c. constant (equality c) in
     let k : SimpleType → Lambda = λ c. constant (all c) in
-    (refl, refl, refl, each-joined IsPlain (map f (bases_from 0 (scope.bases + 2))) (map k (bases_from 1 (scope.bases + 1))) (each_of_all IsPlain f (λ x. refl) _) (each_of_all IsPlain k (λ x. refl) _))
+    (refl, (refl, (refl, each-joined IsPlain (map f (bases_from 0 (scope.bases + 2))) (map k (bases_from 1 (scope.bases + 1))) (each_of_all IsPlain f (λ x. refl) _) (each_of_all IsPlain k (λ x. refl) _))))
 
 -- the heads before the logic's own
 plain_front : (vs ns ws : List ℕ) → Each IsPlain (map bound vs ++ map (λ k. constant (name k)) ns ++ map (λ k. constant (witness k)) ws)

@@ -1,5 +1,5 @@
 //! Loops by pieces, whose commands wait equally long.
-ghost use Rattle.std.specs.Prelude.{◌≡◌, length, OnOk};
+ghost use Rattle.std.specs.Prelude.{◌≡◌, ◌<◌, ◌+◌, drop, length, IfOk, OnOk};
 ghost use Rattle.search_spec.specs.State.{brings_default, with_commands};
 ghost use Rattle.prover_state.specs.Internal.Names.{command_at, IsNumberedCommand};
 ghost use Rattle.prover_state.specs.Internal.Pending.{loop_over, between, BeginsWith, HasWitnesses, IsSigned};
@@ -98,6 +98,39 @@ impl<W: Weigher<Waiting>> Core<W> {
         Ok(())
     }
 
+    /// Where the command at the place behind a piece waits as long as the piece's, it joins the piece. Otherwise the piece is pushed, and
+    /// the command begins another one.
+    fn go_on(
+        &mut self,
+        first: Command,
+        over: Over,
+        piece: Piece,
+        place: usize,
+    ) -> Result<Piece, AllocError>
+        requires right { IsRightState self.old.tables self.old.plan }
+        requires numbers { IsNumberedCommand (naming_in self.old.tables) first }
+        requires fits { IsLoop self.old.tables over first }
+        requires piece { IsPiece self.old.plan.rule.mode self.old.tables over first piece place }
+        requires within { place < length (numbered_loop self.old.tables over first) }
+        ensures piece { IfOk result (λ next. IsPiece self.old.plan.rule.mode self.old.tables over first next (place + 1)) }
+        ensures state { IfOk result (λ next. let mode = self.old.plan.rule.mode in let loop = numbered_loop self.old.tables over first in with_commands mode (drop next.from loop) (the_state self.new.tables self.new.plan) ≡ with_commands mode (drop piece.from loop) (the_state self.old.tables self.old.plan)) }
+        ensures right { OnOk result (IsRightState self.new.tables self.new.plan) }
+        ensures tables { self.new.tables ≡ self.old.tables }
+        ensures rule { OnOk result (self.new.plan.rule ≡ self.old.plan.rule) }
+    {
+        let command = self.tables.command_of(first, over, place)?;
+        let extra = self.extra_delay(command);
+        if extra == piece.extra {
+            return Ok(piece);
+        }
+        self.push_piece(piece, over, place)?;
+        Ok(Piece {
+            first: command,
+            from: place,
+            extra,
+        })
+    }
+
     /// Pushes a whole loop, which has so many commands and of which the first one is given.
     pub fn push_whole(&mut self, first: Command, over: Over, count: usize) -> Result<(), AllocError>
         requires right { IsRightState self.old.tables self.old.plan }
@@ -118,16 +151,7 @@ impl<W: Weigher<Waiting>> Core<W> {
             extra,
         };
         for place in even_until(self.plan.mode().defaults, over, count)..count {
-            let command = self.tables.command_of(first, over, place)?;
-            let wait = self.extra_delay(command);
-            if wait != piece.extra {
-                self.push_piece(piece, over, place)?;
-                piece = Piece {
-                    first: command,
-                    from: place,
-                    extra: wait,
-                };
-            }
+            piece = self.go_on(first, over, piece, place)?;
         }
         self.push_piece(piece, over, count)?;
         Ok(())
