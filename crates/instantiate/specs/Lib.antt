@@ -1,4 +1,5 @@
 pub use Rattle.search_spec.specs.Commands
+pub use Rattle.search_spec.specs.Defaults
 pub use Rattle.search_spec.specs.Partial
 pub use Rattle.search_spec.specs.TypedState
 pub use Rattle.stt_core.specs.ContextView

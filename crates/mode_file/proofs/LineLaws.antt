@@ -4,7 +4,7 @@ use Rattle.std.specs.Str.{bytes_eq}
 use Rattle.std.specs.List.{find}
 use Rattle.std.proofs.lemmas.Slice.Eq.{bytes_eq-Decides}
 use Rattle.mode_file.specs.declared.keys.Key.{Key}
-use Rattle.mode_file.specs.declared.keys.Key.TheVariants.{Process, Mate, Confront, Inst, Choose, Grow, Clock, Terms, Commands, Conflicts}
+use Rattle.mode_file.specs.declared.keys.Key.TheVariants.{Process, Mate, Confront, Inst, Choose, Grow, Clock, Terms, Defaults, Commands, Conflicts}
 use Rattle.mode_file.specs.Keys.{keys, key_name, greatest, key_of}
 use Rattle.mode_file.specs.Internal.Fronts.{is_in}
 use Rattle.outside.specs.Fronts.{behind_front}
@@ -31,6 +31,7 @@ begins Choose rest = record { word = refl; behind = refl; says = refl; named = r
 begins Grow rest = record { word = refl; behind = refl; says = refl; named = refl }
 begins Clock rest = record { word = refl; behind = refl; says = refl; named = refl }
 begins Terms rest = record { word = refl; behind = refl; says = refl; named = refl }
+begins Defaults rest = record { word = refl; behind = refl; says = refl; named = refl }
 begins Commands rest = record { word = refl; behind = refl; says = refl; named = refl }
 begins Conflicts rest = record { word = refl; behind = refl; says = refl; named = refl }
 
@@ -55,6 +56,7 @@ greatest_fits Choose = lit< tt
 greatest_fits Grow = lit< tt
 greatest_fits Clock = lit< tt
 greatest_fits Terms = lit< tt
+greatest_fits Defaults = lit< tt
 greatest_fits Commands = lit< tt
 greatest_fits Conflicts = lit< tt
 

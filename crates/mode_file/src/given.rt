@@ -17,6 +17,7 @@ pub(crate) struct Given {
     grow: Option<u32>,
     clock: Option<u32>,
     terms: Option<u32>,
+    defaults: Option<u32>,
     commands: Option<u32>,
     conflicts: Option<u64>,
 }
@@ -34,6 +35,7 @@ impl Given {
             grow: None,
             clock: None,
             terms: None,
+            defaults: None,
             commands: None,
             conflicts: None,
         }
@@ -52,6 +54,7 @@ impl Given {
             Key::Grow => self.grow.is_some(),
             Key::Clock => self.clock.is_some(),
             Key::Terms => self.terms.is_some(),
+            Key::Defaults => self.defaults.is_some(),
             Key::Commands => self.commands.is_some(),
             Key::Conflicts => self.conflicts.is_some(),
         }
@@ -70,6 +73,7 @@ impl Given {
             Key::Grow => self.grow = Some(number as u32),
             Key::Clock => self.clock = Some(number as u32),
             Key::Terms => self.terms = Some(number as u32),
+            Key::Defaults => self.defaults = Some(number as u32),
             Key::Commands => self.commands = Some(number as u32),
             Key::Conflicts => self.conflicts = Some(number),
         }
@@ -88,6 +92,7 @@ impl Given {
             grow: self.grow.unwrap_or(4),
             clock: self.clock.unwrap_or(0),
             terms: self.terms.unwrap_or(0),
+            defaults: self.defaults.unwrap_or(0),
             commands: self.commands.unwrap_or(20_000),
             conflicts: self.conflicts.unwrap_or(1_000_000),
         }

@@ -13,11 +13,12 @@ pub(crate) enum Key {
     Grow,
     Clock,
     Terms,
+    Defaults,
     Commands,
     Conflicts,
 }
 
-const KEYS: [Key; 10] = [
+const KEYS: [Key; 11] = [
     Key::Process,
     Key::Mate,
     Key::Confront,
@@ -26,6 +27,7 @@ const KEYS: [Key; 10] = [
     Key::Grow,
     Key::Clock,
     Key::Terms,
+    Key::Defaults,
     Key::Commands,
     Key::Conflicts,
 ];
@@ -43,6 +45,7 @@ impl Key {
             Key::Grow => b"grow",
             Key::Clock => b"clock",
             Key::Terms => b"terms",
+            Key::Defaults => b"defaults",
             Key::Commands => b"commands",
             Key::Conflicts => b"conflicts",
         }
@@ -56,7 +59,13 @@ impl Key {
             Key::Clock | Key::Terms => 1,
             Key::Commands => 1_000_000,
             Key::Conflicts => 1_000_000_000_000,
-            Key::Process | Key::Mate | Key::Confront | Key::Inst | Key::Choose | Key::Grow => 1_000,
+            Key::Process
+            | Key::Mate
+            | Key::Confront
+            | Key::Inst
+            | Key::Choose
+            | Key::Grow
+            | Key::Defaults => 1_000,
         }
     }
 

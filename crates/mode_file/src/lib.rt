@@ -22,9 +22,9 @@ pub use line::{begins_with_key, says_nothing};
 pub use number::{NumberRefused, first_word, read_number};
 pub use refused::ModeRefused;
 
-/// What the search is run by: how long each kind of command is put off, and from which moment on; how many commands are
-/// carried out at most; and how many conflicts the solver may meet. By clock 0 the moment is the number of the command that
-/// is carried out, by clock 1 the moment at which that command was due.
+/// What the search is run by: how long each kind of command is put off, and from which moment on; whether terms are offered early; how
+/// much longer commands wait that bring in a default; how many commands are carried out at most; and how many conflicts the solver may
+/// meet. By clock 0 the moment is the number of the command that is carried out, by clock 1 the moment at which that command was due.
 #[derive(Clone, Copy, Debug, PartialEq, Eq)]
 pub struct Mode {
     pub process: u32,
@@ -35,6 +35,7 @@ pub struct Mode {
     pub grow: u32,
     pub clock: u32,
     pub terms: u32,
+    pub defaults: u32,
     pub commands: u32,
     pub conflicts: u64,
 }

@@ -1,4 +1,4 @@
--- No command of a run is due late: where no delay is above 1,000, each is due at most at 1,000 times the commands done, and 1,000.
+-- No command of a run is due late: where no delay is above 2,000, each is due at most at 2,000 times the commands done, and 2,000.
 use Rattle.std.specs.Prelude.{◌≡◌, ◌≤◌, ◌+◌, ◌*◌, ◌==◌, ◌++◌, ◌&&◌, ℕ, zero, suc, Bool, true, false, not, List, [], ◌∷◌, map, filter, Option, Some, None, refl, if◌then◌else◌}
 use Rattle.std.specs.List.{list_any, list_all, flat_map}
 use Rattle.std.proofs.Common.{ap, subst, arith}
@@ -32,19 +32,19 @@ use Rattle.search_spec.specs.Commands.{with_confrontation, with_instantiation, w
 use Rattle.search_spec.specs.After.{nothing_yet, starting_state, with_taken, after_command, next_state, state_after}
 use Rattle.search_spec.proofs.NamingLaws.{each-joined, pick_good}
 
--- no command waits longer than 1,000
+-- no command waits longer than 2,000
 abbrev pub AreShort : Setting → Type 0
-AreShort setting = (c : Command) → delay setting.mode c ≤ 1000
+AreShort setting = (c : Command) → delay setting.mode c ≤ 2000
 
--- after so many commands, the moment is at most 1,000 times as many, and what waits is due at most 1,000 later
+-- after so many commands, the moment is at most 2,000 times as many, and what waits is due at most 2,000 later
 abbrev pub IsPaced : ℕ → State → Type 0
-IsPaced n s = (s.done ≡ n) × (s.moment ≤ 1000 * n) × Each (λ q. q.due ≤ 1000 * n + 1000) s.queue
+IsPaced n s = (s.done ≡ n) × (s.moment ≤ 2000 * n) × Each (λ q. q.due ≤ 2000 * n + 2000) s.queue
 
 module _ (setting : Setting) (short : AreShort setting) (n : ℕ) where
   abbrev Good : State → Type 0
   Good s = IsPaced n s
 
-  each_due : (now : ℕ) → now ≤ 1000 * n → (k : ℕ) (cs : List Command) → Each (λ q. q.due ≤ 1000 * n + 1000) (new_entries (due setting.mode now) k cs)
+  each_due : (now : ℕ) → now ≤ 2000 * n → (k : ℕ) (cs : List Command) → Each (λ q. q.due ≤ 2000 * n + 2000) (new_entries (due setting.mode now) k cs)
   each_due now h k [] = tt
   each_due now h k (c ∷ cs) = (omega (arith, h, short c), each_due now h (suc k) cs)
 
@@ -196,28 +196,28 @@ first_good P q [] h k = h
 first_good P q (p ∷ ps) h k = first_good P (if comes_before p q then p else q) ps (pick_good P (comes_before p q) p q k.0 h) k.1
 
 module _ (setting : Setting) (short : AreShort setting) where
-  later_due : (n : ℕ) (test : Entry Command → Bool) (qs : List (Entry Command)) → Each (λ q. q.due ≤ 1000 * n + 1000) qs → Each (λ q. q.due ≤ 1000 * suc n + 1000) (filter test qs)
+  later_due : (n : ℕ) (test : Entry Command → Bool) (qs : List (Entry Command)) → Each (λ q. q.due ≤ 2000 * n + 2000) qs → Each (λ q. q.due ≤ 2000 * suc n + 2000) (filter test qs)
   later_due n test [] h = tt
   later_due n test (q ∷ qs) h = by_test (test q) (later_due n test qs h.1)
     where
-      by_test : (b : Bool) → Each (λ p. p.due ≤ 1000 * suc n + 1000) (filter test qs) → Each (λ p. p.due ≤ 1000 * suc n + 1000) (if b then q ∷ filter test qs else filter test qs)
+      by_test : (b : Bool) → Each (λ p. p.due ≤ 2000 * suc n + 2000) (filter test qs) → Each (λ p. p.due ≤ 2000 * suc n + 2000) (if b then q ∷ filter test qs else filter test qs)
       by_test true rest = (omega (arith, h.0), rest)
       by_test false rest = rest
 
-  taken-paced : (n : ℕ) (first : Entry Command) (s : State) → first.due ≤ 1000 * n + 1000 → IsPaced n s → IsPaced (suc n) (with_taken setting first s)
+  taken-paced : (n : ℕ) (first : Entry Command) (s : State) → first.due ≤ 2000 * n + 2000 → IsPaced n s → IsPaced (suc n) (with_taken setting first s)
   taken-paced n first s h g = (
     ap suc g.0,
-    pick_good (λ m. m ≤ 1000 * suc n) (setting.mode.clock == 0) (suc s.done) first.due (omega (arith, g.0)) (omega (arith, h)),
+    pick_good (λ m. m ≤ 2000 * suc n) (setting.mode.clock == 0) (suc s.done) first.due (omega (arith, g.0)) (omega (arith, h)),
     later_due n (λ q. not (q.number == first.number)) s.queue g.2,
   )
 
-  next-paced : (n : ℕ) (s t : State) → IsPaced n s → (qs : List (Entry Command)) → Each (λ q. q.due ≤ 1000 * n + 1000) qs → after_command setting (next_command qs) s ≡ Some t → IsPaced (suc n) t
+  next-paced : (n : ℕ) (s t : State) → IsPaced n s → (qs : List (Entry Command)) → Each (λ q. q.due ≤ 2000 * n + 2000) qs → after_command setting (next_command qs) s ≡ Some t → IsPaced (suc n) t
   next-paced n s t g [] h e = cc
   next-paced n s t g (q ∷ qs) h e =
       let first = first_waiting q qs in
       let P : State → Type 0 = λ x. IsPaced (suc n) x in
       let same : with_command setting first.command (with_taken setting first s) ≡ t = cc in
-      subst P same (carried_out-paced setting short (suc n) first.command (with_taken setting first s) (taken-paced n first s (first_good (λ p. p.due ≤ 1000 * n + 1000) q qs h.0 h.1) g))
+      subst P same (carried_out-paced setting short (suc n) first.command (with_taken setting first s) (taken-paced n first s (first_good (λ p. p.due ≤ 2000 * n + 2000) q qs h.0 h.1) g))
 
   step-paced : (n : ℕ) (o : Option State) (t : State) → ((s : State) → o ≡ Some s → IsPaced n s) → next_state setting o ≡ Some t → IsPaced (suc n) t
   step-paced n None t h e = cc

@@ -1,5 +1,5 @@
 -- A run goes on by a command.
-use Rattle.std.specs.Prelude.{◌≡◌, ◌≢◌, ◌≤◌, ◌<◌, ◌+◌, ◌*◌, ◌^◌, ℕ, suc, List, [], ◌∷◌, map, length, Some, refl, if◌then◌else◌}
+use Rattle.std.specs.Prelude.{◌≡◌, ◌≢◌, ◌≤◌, ◌<◌, ◌+◌, ◌*◌, ◌^◌, ℕ, suc, Bool, true, false, List, [], ◌∷◌, map, length, Some, refl, if◌then◌else◌}
 use Rattle.std.proofs.Common.{sym, ap, ap₂, ◌∙◌, subst, arith, add-one}
 use Rattle.std.proofs.lemmas.Option.{same_Some}
 use Rattle.stt_core.specs.Typing.{Scope, IsScope}
@@ -9,10 +9,11 @@ use Rattle.mode_file.specs.declared.Mode.{Mode}
 use Rattle.mode_file.specs.Given.{IsInRange}
 use Rattle.command_queue.specs.declared.entry.Entry.{Entry}
 use Rattle.command_queue.specs.Queue.{Queue, comes_before}
+use Rattle.search_spec.specs.Defaults.{default_delay}
 use Rattle.search_spec.specs.Each.{Each}
 use Rattle.search_spec.specs.Unsatisfiable.{Unsatisfiable}
 use Rattle.search_spec.specs.Queue.{first_waiting, next_command, without_number}
-use Rattle.search_spec.specs.State.{State, Setting, Command as Meant, process, mate, confront, inst, choose, describe, grow, delay, moment_by}
+use Rattle.search_spec.specs.State.{State, Setting, Command as Meant, process, mate, confront, inst, choose, describe, grow, kind_delay, brings_default, delay, moment_by}
 use Rattle.search_spec.specs.Commands.{with_command}
 use Rattle.search_spec.specs.After.{with_taken, after_command, next_state, state_after}
 use Rattle.search_spec.specs.TypedState.{IsTypedSketch, IsTypedCommand}
@@ -97,22 +98,29 @@ pub record Carried (m : ℕ) (t : Tables) (q1 : Queue Planned Delays) (c : Comma
   pub develops : Develops (counted m t) t2
   pub few : length t2.basis.witnesses ≤ suc (length t.basis.witnesses)
 
--- no delay of a mode within its ranges is above 1,000
-short-delays : (mode : Mode) → IsInRange mode → (c : Meant) → delay mode c ≤ 1000
-short-delays mode r (process l) = r.process
-short-delays mode r (mate l k) = r.mate
-short-delays mode r (confront l k) = r.confront
-short-delays mode r (inst l u) = r.inst
-short-delays mode r (choose a f) = r.choose
-short-delays mode r (describe a f) = r.choose
-short-delays mode r (grow p h) = r.grow
+default_short : (mode : Mode) → IsInRange mode → (b : Bool) → default_delay mode b ≤ 1000
+default_short mode r true = r.defaults
+default_short mode r false = omega arith
+
+-- no delay of a mode within its ranges is above 2,000
+short-delays : (mode : Mode) → IsInRange mode → (c : Meant) → delay mode c ≤ 2000
+short-delays mode r c = let k = kind_short c in let d = default_short mode r (brings_default c) in omega (arith, k, d)
+  where
+    kind_short : (c : Meant) → kind_delay mode c ≤ 1000
+    kind_short (process l) = r.process
+    kind_short (mate l k) = r.mate
+    kind_short (confront l k) = r.confront
+    kind_short (inst l u) = r.inst
+    kind_short (choose a f) = r.choose
+    kind_short (describe a f) = r.choose
+    kind_short (grow p h) = r.grow
 
 -- the moment at which the next command is due is a number of 32 bits
 pub due-small : (t : Tables) (q q1 : Queue Planned Delays) → IsRunning t q → (e : Entry Command) → TakesNext t q q1 e → e.due < 2 ^ 32
 due-small t q q1 r e takes =
     let s = the_state t q in
     let paced = after-paced (setting_by t q) (short-delays q.rule.mode r.range) (start_in t) t.done s r.comes_to in
-    let due : e.due ≤ 1000 * t.done + 1000 = next-good (λ w. w.due ≤ 1000 * t.done + 1000) s.queue _ paced.2 takes.is_next in
+    let due : e.due ≤ 2000 * t.done + 2000 = next-good (λ w. w.due ≤ 2000 * t.done + 2000) s.queue _ paced.2 takes.is_next in
     let most : q.rule.mode.commands ≤ 1000000 = r.range.commands in
     omega (arith, due, r.within, most)
 

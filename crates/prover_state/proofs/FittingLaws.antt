@@ -225,7 +225,7 @@ module _ (vs ns : List ℕ) (later all : List Lambda) (are : all ≡ map bound v
 
 -- WITNESSES AND LOGICAL HEADS BY TABLES
 
-mapped_take : {X Y : Type 0} (f : X → Y) (n : ℕ) (xs : List X) → map f (take n xs) ≡ take n (map f xs)
+pub mapped_take : {X Y : Type 0} (f : X → Y) (n : ℕ) (xs : List X) → map f (take n xs) ≡ take n (map f xs)
 mapped_take f zero xs = refl
 mapped_take f (suc n) [] = refl
 mapped_take f (suc n) (x ∷ xs) = ap (λ ys. f x ∷ ys) (mapped_take f n xs)

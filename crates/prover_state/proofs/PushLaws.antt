@@ -11,7 +11,7 @@ use Rattle.command_queue.specs.Queue.{Queue, AddsEntry}
 use Rattle.search_spec.specs.Each.{Each}
 use Rattle.search_spec.specs.Queue.{new_entries}
 use Rattle.search_spec.specs.Partners.{positive_first}
-use Rattle.search_spec.specs.State.{State, Command as Meant, process, mate, confront, inst, grow, choose, describe, delay, due, with_commands}
+use Rattle.search_spec.specs.State.{State, Command as Meant, process, mate, confront, inst, grow, choose, describe, kind_delay, due, with_commands}
 use Rattle.search_spec.specs.Internal.Loops.{queue_of}
 use Rattle.prover_state.specs.declared.command.Command.{Command}
 use Rattle.prover_state.specs.declared.command.Command.TheVariants.{Process, Mate, Confront, Inst, Grow, Choose, Describe}
@@ -24,6 +24,7 @@ use Rattle.prover_state.specs.declared.tables.Tables.{Tables}
 use Rattle.prover_state.specs.Delays.{delay_by}
 use Rattle.prover_state.specs.Internal.Names.{Naming, command_at}
 use Rattle.prover_state.specs.Internal.Pending.{over_terms, over_universals, over_negatives, over_positives, over_heads, over_parked, loop_over, between, later_of, AreThere, IsEntry, span, span_of, loop_at}
+use Rattle.prover_state.specs.Internal.Pieces.{extra_delay}
 use Rattle.prover_state.specs.Internal.Standing.{without_witnesses, naming_in, sources, state_parts, loops_in, the_state, IsRightState}
 use Rattle.prover_state.proofs.EachLaws.{each-last}
 use Rattle.prover_state.proofs.QueueLaws.{queue-last}
@@ -35,32 +36,32 @@ waiting-same d m n (c ∷ cs) h = ap₂ (λ k qs. record { due = k; number = n; 
 pub length-between : {X : Type 0} (next end : ℕ) (xs : List X) → next ≤ end → end ≤ length xs → length (between next end xs) ≡ end - next
 length-between next end xs h k = length-take-le (end - next) (drop next xs) (omega (arith, h, k, length-drop next xs))
 
-each_of_all : {X Y : Type 0} (P : Y → Type 0) (f : X → Y) → ((x : X) → P (f x)) → (xs : List X) → Each P (map f xs)
+pub each_of_all : {X Y : Type 0} (P : Y → Type 0) (f : X → Y) → ((x : X) → P (f x)) → (xs : List X) → Each P (map f xs)
 each_of_all P f h [] = tt
 each_of_all P f h (x ∷ xs) = (h x, each_of_all P f h xs)
 
-each-take : {X : Type 0} (P : X → Type 0) (n : ℕ) (xs : List X) → Each P xs → Each P (take n xs)
+pub each-take : {X : Type 0} (P : X → Type 0) (n : ℕ) (xs : List X) → Each P xs → Each P (take n xs)
 each-take P zero xs h = tt
 each-take P (suc n) [] h = tt
 each-take P (suc n) (x ∷ xs) h = (h.0, each-take P n xs h.1)
 
-each-drop : {X : Type 0} (P : X → Type 0) (n : ℕ) (xs : List X) → Each P xs → Each P (drop n xs)
+pub each-drop : {X : Type 0} (P : X → Type 0) (n : ℕ) (xs : List X) → Each P xs → Each P (drop n xs)
 each-drop P zero xs h = h
 each-drop P (suc n) [] h = tt
 each-drop P (suc n) (x ∷ xs) h = each-drop P n xs h.1
 
 module _ (mode : Mode) where
-  mated_delay : (l m : Literal) (b : Bool) → delay mode (if b then mate l m else mate m l) ≡ mode.mate
+  mated_delay : (l m : Literal) (b : Bool) → kind_delay mode (if b then mate l m else mate m l) ≡ mode.mate
   mated_delay l m true = refl
   mated_delay l m false = refl
 
-  confronted_delay : (l m : Literal) (b : Bool) → delay mode (if b then confront l m else confront m l) ≡ mode.confront
+  confronted_delay : (l m : Literal) (b : Bool) → kind_delay mode (if b then confront l m else confront m l) ≡ mode.confront
   confronted_delay l m true = refl
   confronted_delay l m false = refl
 
-  -- the commands of a loop wait equally long
+  -- the commands of a loop are of one kind
   abbrev WaitsLike : Meant → Meant → Type 0
-  WaitsLike c d = delay mode d ≡ delay mode c
+  WaitsLike c d = kind_delay mode d ≡ kind_delay mode c
 
   terms_wait : (s : State) (c : Meant) → Each (WaitsLike c) (over_terms s c)
   terms_wait s (inst l u) = each_of_all (WaitsLike (inst l u)) (inst l) (λ x. refl) _
@@ -133,7 +134,7 @@ pub length-later : (scope : Scope) (s : State) (c : Meant) (r : Option Rest) →
 length-later scope s c None w = refl
 length-later scope s c (Some r) w = length-between r.next r.end (loop_over scope s r.over c) w.ascends w.within
 
-pub delay-numbered : (m : Mode) (names : Naming) (c : Command) → delay m (command_at names c) ≡ delay_by m c
+pub delay-numbered : (m : Mode) (names : Naming) (c : Command) → kind_delay m (command_at names c) ≡ delay_by m c
 delay-numbered m names (Process l) = refl
 delay-numbered m names (Mate l k) = refl
 delay-numbered m names (Confront l k) = refl
@@ -142,7 +143,7 @@ delay-numbered m names (Grow p h) = refl
 delay-numbered m names (Choose f) = refl
 delay-numbered m names (Describe f) = refl
 
-module _ (t : Tables) (old new : Queue Planned Delays) (p : Planned) (entry : IsEntry (without_witnesses t.basis.bank) (naming_in t) (sources t) p) (adds : AddsEntry old new (suc (span p)) (t.moment + delay_by old.rule.mode p.first) p) where
+module _ (t : Tables) (old new : Queue Planned Delays) (p : Planned) (entry : IsEntry (without_witnesses t.basis.bank) (naming_in t) (sources t) p) (extra : ℕ) (even : Each (λ c. extra_delay old.rule.mode c ≡ extra) (command_at (naming_in t) p.first ∷ later_of (without_witnesses t.basis.bank) (sources t) (command_at (naming_in t) p.first) p.rest)) (adds : AddsEntry old new (suc (span p)) (t.moment + extra + delay_by old.rule.mode p.first) p) where
   abbrev scope : Scope
   scope = without_witnesses t.basis.bank
 
@@ -152,19 +153,24 @@ module _ (t : Tables) (old new : Queue Planned Delays) (p : Planned) (entry : Is
   abbrev commands : List Meant
   commands = first ∷ later_of scope (sources t) first p.rest
 
-  abbrev added : Entry Planned
-  added = record { due = t.moment + delay_by old.rule.mode p.first; number = old.pushes; command = p }
+  abbrev moment : ℕ
+  moment = t.moment + extra + delay_by old.rule.mode p.first
 
-  delays_are : Each (λ c. due old.rule.mode t.moment c ≡ t.moment + delay_by old.rule.mode p.first) commands
-  delays_are = (
-    ap (λ d. t.moment + d) (delay-numbered old.rule.mode (naming_in t) p.first),
-    each_due (later_of scope (sources t) first p.rest)
-        (later_waits old.rule.mode scope (sources t) first p.rest),
-  )
+  abbrev added : Entry Planned
+  added = record { due = moment; number = old.pushes; command = p }
+
+  one_due : (c : Meant) → WaitsLike old.rule.mode first c → extra_delay old.rule.mode c ≡ extra → due old.rule.mode t.moment c ≡ moment
+  one_due c kind more = ap (λ n. t.moment + n) (ap₂ (λ m n. m + n) (kind ∙ delay-numbered old.rule.mode (naming_in t) p.first) more) ∙ sums t.moment extra (delay_by old.rule.mode p.first)
     where
-      each_due : (cs : List Meant) → Each (WaitsLike old.rule.mode first) cs → Each (λ c. due old.rule.mode t.moment c ≡ t.moment + delay_by old.rule.mode p.first) cs
-      each_due [] h = tt
-      each_due (c ∷ cs) h = (ap (λ d. t.moment + d) (h.0 ∙ delay-numbered old.rule.mode (naming_in t) p.first), each_due cs h.1)
+      sums : (k m n : ℕ) → k + (n + m) ≡ k + m + n
+      sums k m n = omega arith
+
+  delays_are : Each (λ c. due old.rule.mode t.moment c ≡ moment) commands
+  delays_are = (one_due first refl even.0, each_due (later_of scope (sources t) first p.rest) (later_waits old.rule.mode scope (sources t) first p.rest) even.1)
+    where
+      each_due : (cs : List Meant) → Each (WaitsLike old.rule.mode first) cs → Each (λ c. extra_delay old.rule.mode c ≡ extra) cs → Each (λ c. due old.rule.mode t.moment c ≡ moment) cs
+      each_due [] h k = tt
+      each_due (c ∷ cs) h k = (one_due c h.0 k.0, each_due cs h.1 k.1)
 
   -- The state with the commands of a loop pushed.
   pub pushed-loop : the_state t new ≡ with_commands old.rule.mode commands (the_state t old)
@@ -174,7 +180,7 @@ module _ (t : Tables) (old new : Queue Planned Delays) (p : Planned) (entry : Is
       queue_is =
           ap (λ es. queue_of (loops_in t es)) adds.entries
           ∙ queue-last (loop_at scope (naming_in t) (sources t)) (λ e. refl) (λ e. refl) old.entries added
-          ∙ ap (λ qs. queue_of (loops_in t old.entries) ++ qs) (sym (waiting-same (due old.rule.mode t.moment) (t.moment + delay_by old.rule.mode p.first) old.pushes commands delays_are))
+          ∙ ap (λ qs. queue_of (loops_in t old.entries) ++ qs) (sym (waiting-same (due old.rule.mode t.moment) moment old.pushes commands delays_are))
 
       pushes_is : new.pushes ≡ old.pushes + length commands
       pushes_is = adds.pushes ∙ ap (λ n. old.pushes + suc n) (sym (length-later scope (sources t) first p.rest entry.later))

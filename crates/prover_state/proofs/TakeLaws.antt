@@ -2,7 +2,6 @@
 use Rattle.std.specs.Prelude.{◌≡◌, ◌<◌, ◌≤◌, ◌+◌, ◌-◌, ℕ, suc, List, [], ◌∷◌, ◌++◌, map, take, drop, length, slice_get, Option, Some, refl}
 use Rattle.std.proofs.Common.{sym, ap, ap₂, subst, ◌∙◌, arith, inl, inr}
 use Rattle.stt_core.specs.Typing.{Scope}
-use Rattle.stt_core.proofs.ListLaws.{drop_got}
 use Rattle.command_queue.specs.declared.entry.Entry.{Entry}
 use Rattle.command_queue.specs.Queue.{Queue, TakesEntry, AddsEntryAt}
 use Rattle.search_spec.specs.Each.{Each}
@@ -23,13 +22,8 @@ use Rattle.prover_state.proofs.EachLaws.{each-weaker, each-between, each-without
 use Rattle.prover_state.proofs.SpacedLaws.{each_ends, before_ends, behind_begins}
 use Rattle.prover_state.proofs.PushLaws.{length-later}
 use Rattle.prover_state.proofs.SameLoops.{same-loop}
+use Rattle.prover_state.proofs.WholeLaws.{between-more}
 use Rattle.prover_state.proofs.QueueLaws.{next-taken, without-alone, without-more}
-
--- the part between two places begins with what stands at the first one
-between-more : {X : Type 0} (next end : ℕ) (xs : List X) (x : X) → next < end → slice_get xs next ≡ Some x → between next end xs ≡ x ∷ between (suc next) end xs
-between-more next end xs x h e =
-    ap (take (end - next)) (drop_got xs next x e ∙ ap (λ n. x ∷ drop n xs) (let k : next + 1 ≡ suc next = omega arith in k))
-    ∙ ap (λ n. take n (x ∷ drop (suc next) xs)) (let k : end - next ≡ suc (end - suc next) = omega (arith, h) in k)
 
 module _ (scope : Scope) (names : Naming) (s : State) (old mid : Queue Planned Delays) (e : Entry Planned) (takes : TakesEntry old mid e) (spaced : AreSpaced old.entries old.pushes) (good : Each (λ x. IsEntry scope names s x.command) old.entries) where
   abbrev f : Entry Planned → Loop Meant

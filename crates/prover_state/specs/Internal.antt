@@ -15,3 +15,4 @@ pub mod Taking
 pub mod Steps
 pub mod Shapes
 pub mod Pending
+pub mod Pieces

@@ -43,18 +43,14 @@ pub struct Rest {
 
 impl Rest {
     ghost use Rattle.std.specs.Prelude.{◌≡◌};
-    ghost use Rattle.prover_state.specs.Internal.Pending.{rest_after};
+    ghost use Rattle.prover_state.specs.Internal.Pending.{rest_between};
 
-    /// What comes after the first one of so many commands.
-    pub fn after_first(over: Over, count: usize) -> Option<Rest>
-        ensures { result ≡ rest_after over count }
+    /// What is left of a loop between two places, where anything is.
+    pub fn between(over: Over, next: usize, end: usize) -> Option<Rest>
+        ensures { result ≡ rest_between over next end }
     {
-        if count > 1 {
-            Some(Rest {
-                over,
-                next: 1,
-                end: count,
-            })
+        if next < end {
+            Some(Rest { over, next, end })
         } else {
             None
         }

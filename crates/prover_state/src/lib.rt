@@ -12,6 +12,7 @@ mod holes;
 mod instance;
 mod noting;
 mod partners;
+mod piece;
 mod places;
 mod plan;
 mod pushing;

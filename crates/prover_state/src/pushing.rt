@@ -1,16 +1,18 @@
 //! Pushes.
-ghost use Rattle.std.specs.Prelude.{◌≡◌, [], ◌∷◌, map, length, OnOk};
+ghost use Rattle.std.specs.Prelude.{◌≡◌, [], ◌∷◌, map, OnOk};
 ghost use Rattle.literal_map.specs.Atoms.{bank_literal};
 ghost use Rattle.search_spec.specs.Each.{Each};
 ghost use Rattle.search_spec.specs.Instances.{with_literal, with_literals};
 ghost use Rattle.search_spec.specs.State.{with_commands};
 ghost use Rattle.prover_state.specs.Lasting.{lasting};
 ghost use Rattle.prover_state.specs.Internal.Names.{command_at, IsNumberedCommand, IsNumberIn};
-ghost use Rattle.prover_state.specs.Internal.Pending.{loop_over, later_of, BeginsWith, HasWitnesses, IsSigned, IsEntry};
+ghost use Rattle.prover_state.specs.Internal.Pending.{later_of, IsEntry};
+ghost use Rattle.prover_state.specs.Internal.Pieces.{extra_delay};
 ghost use Rattle.prover_state.specs.Internal.Standing.{without_witnesses, naming_in, sources, the_state, IsRightState};
 
 use crate::clauses::literal_of;
-use crate::command::{Command, Over, Planned, Rest};
+use crate::command::{Command, Planned};
+use crate::fitting::small;
 use crate::tables::Core;
 use crate::waiting::Waiting;
 use command_queue::Weigher;
@@ -19,16 +21,18 @@ use std::alloc::AllocError;
 use term_bank::equal_ids_for_equal_terms;
 
 impl<W: Weigher<Waiting>> Core<W> {
-    /// Pushes the commands of a loop.
-    pub fn push_loop(&mut self, planned: Planned) -> Result<(), AllocError>
+    /// Pushes the commands of a loop, each of which waits so much longer than others of its kind.
+    pub(crate) fn push_loop(&mut self, planned: Planned, extra: u32) -> Result<(), AllocError>
         requires right { IsRightState self.old.tables self.old.plan }
         requires entry { IsEntry (without_witnesses self.old.tables.basis.bank) (naming_in self.old.tables) (sources self.old.tables) planned }
+        requires even { let first = command_at (naming_in self.old.tables) planned.first in Each (λ c. extra_delay self.old.plan.rule.mode c ≡ extra) (first ∷ later_of (without_witnesses self.old.tables.basis.bank) (sources self.old.tables) first planned.rest) }
         ensures state { OnOk result (let first = command_at (naming_in self.old.tables) planned.first in the_state self.new.tables self.new.plan ≡ with_commands self.old.plan.rule.mode (first ∷ later_of (without_witnesses self.old.tables.basis.bank) (sources self.old.tables) first planned.rest) (the_state self.old.tables self.old.plan)) }
         ensures right { OnOk result (IsRightState self.new.tables self.new.plan) }
         ensures tables { self.new.tables ≡ self.old.tables }
         ensures rule { OnOk result (self.new.plan.rule ≡ self.old.plan.rule) }
     {
-        self.plan.push(planned, u64::from(self.tables.moment))?;
+        let now = small(self.tables.moment as usize + extra as usize)?;
+        self.plan.push(planned, u64::from(now))?;
         Ok(())
     }
 
@@ -41,28 +45,12 @@ impl<W: Weigher<Waiting>> Core<W> {
         ensures tables { self.new.tables ≡ self.old.tables }
         ensures rule { OnOk result (self.new.plan.rule ≡ self.old.plan.rule) }
     {
-        self.push_loop(Planned {
+        let extra = self.extra_delay(command);
+        let alone = Planned {
             first: command,
             rest: None,
-        })?;
-        Ok(())
-    }
-
-    /// Pushes a whole loop, which has so many commands and of which the first one is given.
-    pub fn push_whole(&mut self, first: Command, over: Over, count: usize) -> Result<(), AllocError>
-        requires right { IsRightState self.old.tables self.old.plan }
-        requires numbers { IsNumberedCommand (naming_in self.old.tables) first }
-        requires begins { let c = command_at (naming_in self.old.tables) first in BeginsWith c (loop_over (without_witnesses self.old.tables.basis.bank) (sources self.old.tables) over c) }
-        requires count { count ≡ length (loop_over (without_witnesses self.old.tables.basis.bank) (sources self.old.tables) over (command_at (naming_in self.old.tables) first)) }
-        requires witnesses { HasWitnesses (sources self.old.tables) over }
-        requires signed { IsSigned over (command_at (naming_in self.old.tables) first) }
-        ensures state { OnOk result (the_state self.new.tables self.new.plan ≡ with_commands self.old.plan.rule.mode (loop_over (without_witnesses self.old.tables.basis.bank) (sources self.old.tables) over (command_at (naming_in self.old.tables) first)) (the_state self.old.tables self.old.plan)) }
-        ensures right { OnOk result (IsRightState self.new.tables self.new.plan) }
-        ensures tables { self.new.tables ≡ self.old.tables }
-        ensures rule { OnOk result (self.new.plan.rule ≡ self.old.plan.rule) }
-    {
-        let rest = Rest::after_first(over, count);
-        self.push_loop(Planned { first, rest })?;
+        };
+        self.push_loop(alone, extra)?;
         Ok(())
     }
 

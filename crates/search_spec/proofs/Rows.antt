@@ -1,6 +1,6 @@
 -- The runs of the worked examples, by computation.
 use Rattle.std.specs.Prelude.{refl}
-use Rattle.search_spec.specs.Rows.{AllRuns, AgreeRuns, ChosenRuns, DescribedRuns, SymRuns, SomeRuns, DueRuns, OfferedRuns}
+use Rattle.search_spec.specs.Rows.{AllRuns, AgreeRuns, ChosenRuns, DescribedRuns, SymRuns, SomeRuns, DueRuns, OfferedRuns, DelayedRuns}
 
 pub all_runs : AllRuns
 all_runs = (refl, refl)
@@ -25,3 +25,6 @@ due_runs = (refl, refl, refl, refl)
 
 pub offered_runs : OfferedRuns
 offered_runs = (refl, refl, refl)
+
+pub delayed_runs : DelayedRuns
+delayed_runs = (refl, refl)

@@ -25,6 +25,7 @@ pub mod Partial
 pub mod TypedPartial
 pub mod Heads
 pub mod Queue
+pub mod Defaults
 pub mod State
 pub mod Spine
 pub mod Alternatives

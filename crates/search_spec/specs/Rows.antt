@@ -22,6 +22,10 @@ one_setting names = record { scope = record { bases = 0; names = names; witnesse
 abbrev pub by_due : Setting → Setting
 by_due setting = record setting { mode = record standard_mode { clock = 1 } }
 
+-- the same, where commands that bring in a default wait longer
+abbrev pub with_defaults_late : Setting → Setting
+with_defaults_late setting = record setting { mode = record standard_mode { defaults = 8 } }
+
 -- the same, where witnesses and the sides of negated equations between functions are terms at once
 abbrev pub with_terms_offered : Setting → Setting
 with_terms_offered setting = record setting { mode = record standard_mode { terms = 1 } }
@@ -169,3 +173,10 @@ OfferedRuns =
     × (dues (trace (with_terms_offered all_setting) 7 (Some (starting_state (with_terms_offered all_setting) all_c_start))) ≡ (0, 0) ∷ (0, 1) ∷ (0, 2) ∷ (1, 3) ∷ (3, 4) ∷ (3, 5) ∷ (5, 6) ∷ [])
     × (commands (trace all_setting 6 (Some (starting_state all_setting all_c_start)))
     ≡ process some_p ∷ process all_c ∷ process (minus (p_at (named 1))) ∷ process (plus (p_at (constant (witness 0)))) ∷ inst all_c default ∷ mate (plus (p_at (constant (witness 0)))) (minus (p_at (named 1))) ∷ [])
+
+-- the mating comes before the instance with the default term, and then the instance with the witness
+abbrev pub DelayedRuns : Type 0
+DelayedRuns =
+    (commands (trace (with_defaults_late all_setting) 7 (Some (starting_state (with_defaults_late all_setting) all_c_start)))
+    ≡ process some_p ∷ process all_c ∷ process (minus (p_at (named 1))) ∷ process (plus (p_at (constant (witness 0)))) ∷ mate (plus (p_at (constant (witness 0)))) (minus (p_at (named 1))) ∷ process (minus (eq i (constant (witness 0)) (named 1))) ∷ inst all_c (constant (witness 0)) ∷ [])
+    × (dues (trace (with_defaults_late all_setting) 7 (Some (starting_state (with_defaults_late all_setting) all_c_start))) ≡ (0, 0) ∷ (0, 1) ∷ (0, 2) ∷ (1, 3) ∷ (5, 5) ∷ (5, 6) ∷ (7, 7) ∷ [])

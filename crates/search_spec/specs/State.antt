@@ -1,5 +1,5 @@
 -- The state of the search (Brown, Reducing higher-order theorem proving to a sequence of SAT problems, 2013).
-use Rattle.std.specs.Prelude.{ℕ, ◌+◌, ◌++◌, ◌==◌, length, List, if◌then◌else◌}
+use Rattle.std.specs.Prelude.{ℕ, ◌+◌, ◌++◌, ◌==◌, Bool, false, length, List, if◌then◌else◌}
 use Rattle.stt_core.specs.SimpleType.{SimpleType}
 use Rattle.stt_core.specs.Lambda.{Lambda}
 use Rattle.stt_core.specs.Typing.{Scope}
@@ -8,6 +8,7 @@ use Rattle.tableau_calculus.specs.Witnesses.{Row, with_rows}
 use Rattle.search_spec.specs.Unsatisfiable.{Clause}
 use Rattle.mode_file.specs.declared.Mode.{Mode}
 use Rattle.search_spec.specs.Partial.{Partial}
+use Rattle.search_spec.specs.Defaults.{is_default_term, is_value_choice, default_delay}
 use Rattle.search_spec.specs.Queue.{new_entries}
 use Rattle.command_queue.specs.declared.entry.Entry.{Entry}
 
@@ -54,15 +55,25 @@ pub record State : Type 0 where
   pub done : ℕ
   pub moment : ℕ
 
--- How long a command waits. A choice and a description wait equally long.
+-- How long the commands of a kind wait. A choice and a description wait equally long.
+abbrev pub kind_delay : Mode → Command → ℕ
+kind_delay mode (process l) = mode.process
+kind_delay mode (mate l m) = mode.mate
+kind_delay mode (confront l m) = mode.confront
+kind_delay mode (inst l u) = mode.inst
+kind_delay mode (choose a f) = mode.choose
+kind_delay mode (describe a f) = mode.choose
+kind_delay mode (grow p h) = mode.grow
+
+-- whether a command brings in a default: it instantiates with a default term, or grows by a choice
+abbrev pub brings_default : Command → Bool
+brings_default (inst l u) = is_default_term u
+brings_default (grow p h) = is_value_choice h
+brings_default c = false
+
+-- how long a command waits
 abbrev pub delay : Mode → Command → ℕ
-delay mode (process l) = mode.process
-delay mode (mate l m) = mode.mate
-delay mode (confront l m) = mode.confront
-delay mode (inst l u) = mode.inst
-delay mode (choose a f) = mode.choose
-delay mode (describe a f) = mode.choose
-delay mode (grow p h) = mode.grow
+delay mode c = kind_delay mode c + default_delay mode (brings_default c)
 
 -- The moment at which a command is carried out: by clock 0 it is the command's number, counted from 1; by any other clock it is the moment
 -- at which the command was due.

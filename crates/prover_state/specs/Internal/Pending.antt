@@ -128,9 +128,9 @@ abbrev pub AreThere : Scope → State → Meant → Option Rest → Type 0
 AreThere scope s c None = Unit {0}
 AreThere scope s c (Some r) = IsWithinScope scope s c r
 
--- what comes after the first one of so many commands
-abbrev pub rest_after : Over → ℕ → Option Rest
-rest_after over count = if nat_lt 1 count then Some (record { over = over; next = 1; end = count }) else None
+-- what is left of a loop between two places, where anything is
+abbrev pub rest_between : Over → ℕ → ℕ → Option Rest
+rest_between over next end = if nat_lt next end then Some (record { over = over; next = next; end = end }) else None
 
 -- the list begins with the element
 abbrev pub BeginsWith : {X : Type 0} → X → List X → Type 0
