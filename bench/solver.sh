@@ -1,30 +1,43 @@
 #!/usr/bin/env bash
-# Compares a program that reads DIMACS from its input with minisat (Debian's package): bench/solver.sh [PROGRAM]
-# Without a word it is the built test_dimacs.
-# Each line: the problems, the seconds of both, the least of five runs each, their ratio, and the most memory that the program took.
+# Compares programs on problems in DIMACS: bench/solver.sh [COMMAND ..]
+# Without a word it is the built test_dimacs. Each command is one word, such as an old test_dimacs, and reads a problem from its input; beside
+# them run Debian's minisat and cadical, and minisat without deletion (bench/minisat_kept.sh), those of them that are there.
+# Each line: a family of problems, its number, and for each program the seconds of the family, the sum of the least of RUNS (3) runs for each
+# problem, and how often the first program's that is. The programs run by turns.
 set -eu
 here=$(dirname -- "$(readlink -f -- "$0")")
-program=${1:-$here/../crates/test_dimacs/out/test_dimacs}
+programs=("${@:-$here/../crates/test_dimacs/out/test_dimacs}")
+for other in minisat cadical minisat-kept; do if command -v "$other" >/dev/null; then programs+=("$other"); fi; done
 folder=$(mktemp -d)
 trap 'rm -r "$folder"' EXIT
 python3 "$here/solver_problems.py" "$folder"
 TIMEFORMAT=%3U
 
-# Appends the seconds of the fastest of five runs on a problem to a file: least PROBLEM FILE COMMAND ..
-least() {
-  for _ in 1 2 3 4 5; do
-    { time "${@:3}" <"$1" >"$folder/answer" 2>&1 || true; } 2>&1
-  done | sort -n | head -n 1 >>"$2"
+run() { # the program, the problem
+  case $1 in
+    minisat) minisat -verb=0 "$2" /dev/null ;;
+    minisat-kept) minisat-kept -verb=0 -no-pre "$2" /dev/null ;;
+    *) "$1" <"$2" ;;
+  esac >"$folder/answer" 2>&1 || true
 }
 
-for group in pigeons8 pigeons9 random150 random200 wide10000; do
-  for problem in "$folder/$group"*.cnf; do
-    least "$problem" "$folder/$group.ours" "$program"
-    least "$problem" "$folder/$group.minisat" minisat -verb=0 "$problem" /dev/null
-    /usr/bin/time -a -o "$folder/$group.memory" -f %M "$program" <"$problem" >"$folder/answer" || true
+for family in pigeons8 pigeons9 renamed8 reordered9 renamed9 random150 random200 colouring parity urquhart miter6 wide10000; do
+  rm -f "$folder"/times.*
+  for problem in "$folder/$family".cnf "$folder/${family}_"*.cnf; do
+    [ -e "$problem" ] || continue
+    rm -f "$folder"/runs.*
+    for _ in $(seq "${RUNS:-3}"); do
+      for i in "${!programs[@]}"; do { time run "${programs[$i]}" "$problem"; } 2>>"$folder/runs.$i"; done
+    done
+    for i in "${!programs[@]}"; do sort -n "$folder/runs.$i" | head -n 1 >>"$folder/times.$i"; done
   done
-  most=$(grep -v exited "$folder/$group.memory" | sort -n | tail -n 1)
-  paste "$folder/$group.ours" "$folder/$group.minisat" | awk -v group="$group" -v most="$most" '
-    { ours += $1; minisat += $2 }
-    END { printf "%s: %.3f s, minisat %.3f s, %.2f times, %d KB\n", group, ours, minisat, ours / minisat, most }'
+  printf '%s:' "$family"
+  first=
+  for i in "${!programs[@]}"; do
+    sum=$(awk '{ sum += $1 } END { printf "%.3f", sum }' "$folder/times.$i")
+    first=${first:-$sum}
+    printf ' %s %s s' "$(basename "${programs[$i]}")" "$sum"
+    if [ "$i" != 0 ]; then awk -v a="$sum" -v b="$first" 'BEGIN { if (b > 0) printf " (%.2f)", a / b }'; fi
+  done
+  echo
 done

@@ -235,9 +235,8 @@ impl Learner {
         ensures falsified { IfOk result (λ r. (clause : List SatLit) → r ≡ false → premise_clause self.old.clauses (results self.old.log) premise ≡ Some clause → IsFalseIn (literals self.new.propagator.trail.steps) clause) }
         ensures root { IfOk result (λ r. r ≡ false → self.new.propagator.trail.starts ≡ []) }
     {
-        let literals = named(&self.clauses, &self.log, premise).as_slice();
-        let clause = Clause::from_slice(self.alloc, literals)?;
         self.names.reserve(1)?;
+        let clause = named(&self.clauses, &self.log, premise).as_slice();
         let inserted = self.propagator.insert(clause)?;
         if inserted {
             self.names.push_reserved(premise);

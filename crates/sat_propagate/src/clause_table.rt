@@ -149,6 +149,14 @@ impl ClauseTable {
         head.replace(from, to);
     }
 
+    /// Whether a clause names one literal twice, and so watches none.
+    pub fn is_detached(&self, n: usize) -> bool {
+        match self.heads.get(n) {
+            Some(head) => head.first.is(head.second),
+            None => false,
+        }
+    }
+
     /// A clause watches none of its literals any more.
     pub fn detach(&mut self, n: usize)
         requires { n < length self.old.items }

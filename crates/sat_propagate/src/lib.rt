@@ -5,6 +5,7 @@ mod clause_table;
 mod decider;
 mod packed;
 mod propagator;
+mod recent;
 mod trail;
 mod values;
 mod watch_lists;

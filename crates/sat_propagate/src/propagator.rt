@@ -17,9 +17,10 @@ ghost use Rattle.sat_propagate.specs.Internal.ClauseTable.{Watched};
 use crate::clause_table::ClauseTable;
 use crate::decider::Decider;
 use crate::packed::{Packed, narrow};
+use crate::recent::Recent;
 use crate::trail::Trail;
 use crate::watch_lists::{Watch, WatchLists};
-use sat_base::{Clause, SatLit, Var};
+use sat_base::{SatLit, Var};
 use std::alloc::{AllocError, Global};
 
 /// What a visit of a clause found, one of whose watched literals became false.
@@ -54,6 +55,7 @@ pub struct Propagator {
     pub lists: WatchLists,
     pub decider: Decider,
     used: Vec<usize>,
+    recent: Recent,
 }
 
 impl Propagator {
@@ -69,6 +71,7 @@ impl Propagator {
             lists: WatchLists::new(alloc),
             decider: Decider::new(alloc),
             used: Vec::new(alloc),
+            recent: Recent::new(alloc),
         }
     }
 
@@ -338,18 +341,36 @@ impl Propagator {
         self.decider.wish_all(values);
     }
 
-    /// Of the clauses from which something was learned those are watched no more that the last clause is a part of.
+    /// Where something was learned, the clauses are watched no more that the last clause is a part of: those from which it was learned, and
+    /// those that were learned last.
     fn detach_used(&mut self)
         requires right { IsPropagator self.old.trail self.old.processed self.old.clauses.items self.old.lists }
         ensures right { IsPropagator self.new.trail self.new.processed self.new.clauses.items self.new.lists }
         ensures trail { self.new.trail ≡ self.old.trail }
         ensures texts { texts self.new.clauses.items ≡ texts self.old.clauses.items }
     {
+        self.note_recent();
         for _ in 0..self.used.len() {
             if let Some(n) = self.used.pop() {
                 self.detach_covered(n);
             }
         }
+    }
+
+    /// Where something was learned, notes the clauses that were learned before and that the last clause may be a part of. Where there is no
+    /// memory they are not noted.
+    fn note_recent(&mut self)
+        ensures trail { self.new.trail ≡ self.old.trail }
+        ensures processed { self.new.processed ≡ self.old.processed }
+        ensures clauses { self.new.clauses.items ≡ self.old.clauses.items }
+        ensures lists { self.new.lists ≡ self.old.lists }
+    {
+        let count = self.clauses.len();
+        if count == 0 || self.used.is_empty() {
+            return;
+        }
+        let last = self.clauses.literals(count - 1);
+        let _noted = self.recent.find_covered(count - 1, last, &mut self.used);
     }
 
     /// A clause is watched no more where the last one is a part of it, and another one.
@@ -360,7 +381,7 @@ impl Propagator {
         ensures texts { texts self.new.clauses.items ≡ texts self.old.clauses.items }
     {
         let count = self.clauses.len();
-        if n >= count {
+        if n >= count || self.clauses.is_detached(n) {
             return;
         }
         let part = self.clauses.literals(count - 1);
@@ -390,27 +411,27 @@ impl Propagator {
 
     /// Inserts a clause, going back as far as it needs. Not inserted, and false is answered, where all its literals are
     /// false without a decision and at most one of them is another than the others.
-    pub fn insert(&mut self, clause: Clause) -> Result<bool, AllocError>
+    pub fn insert(&mut self, clause: &[SatLit]) -> Result<bool, AllocError>
         requires right { IsPropagator self.old.trail self.old.processed self.old.clauses.items self.old.lists }
-        requires over { IsOver (length self.old.trail.phases) clause }
+        requires over { IsOver (length self.old.trail.phases) clause.now }
         ensures right { IsPropagator self.new.trail self.new.processed self.new.clauses.items self.new.lists }
         ensures made { length self.new.trail.phases ≡ length self.old.trail.phases }
-        ensures inserted { IfOk result (λ r. r ≡ true → texts self.new.clauses.items ≡ texts self.old.clauses.items ++ clause ∷ []) }
+        ensures inserted { IfOk result (λ r. r ≡ true → texts self.new.clauses.items ≡ texts self.old.clauses.items ++ clause.now ∷ []) }
         ensures refused { IfOk result (λ r. r ≡ false → self.new.clauses.items ≡ self.old.clauses.items) }
-        ensures falsified { IfOk result (λ r. r ≡ false → IsFalseIn (literals self.new.trail.steps) clause) }
+        ensures falsified { IfOk result (λ r. r ≡ false → IsFalseIn (literals self.new.trail.steps) clause.now) }
         ensures root { IfOk result (λ r. r ≡ false → self.new.trail.starts ≡ []) }
         ensures err { OnErr result (self.new.clauses.items ≡ self.old.clauses.items) }
     {
-        let Some(first) = self.best(clause.as_slice(), None) else {
+        let Some(first) = self.best(clause, None) else {
             self.back_to(0);
             return Ok(false);
         };
-        match self.best(clause.as_slice(), Some(first)) {
+        match self.best(clause, Some(first)) {
             Some(second) => {
-                self.insert_watched(clause.as_slice(), first, second)?;
+                self.insert_watched(clause, first, second)?;
                 Ok(true)
             }
-            None => self.insert_unit(clause.as_slice(), first),
+            None => self.insert_unit(clause, first),
         }
     }
 
@@ -690,7 +711,7 @@ fn is_proper_part(part: &[Packed], clause: &[Packed]) -> bool
     ensures among { IsTrue result → IsClausePart part.now clause.now }
     ensures more { IsTrue result → (l : SatLit) × IsTrue (holds clause.now l) × (holds part.now l ≡ false) }
 {
-    are_among(part, clause) && !are_among(clause, part)
+    part.len() < clause.len() && are_among(part, clause) && !are_among(clause, part)
 }
 
 /// Whether the literals of a clause are among those of another one.

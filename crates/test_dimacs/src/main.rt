@@ -4,15 +4,11 @@
 
 mod session;
 
-use session::Session;
+use session::report;
 use std::io;
 
 fn main(rt: HostRuntime) -> io::Result<()> {
-    let mut session = Session::new(rt.alloc());
-    for line in rt.lines(rt.alloc()) {
-        session.read(line?.as_str())?;
-    }
-    let answer = session.answer()?;
-    println!(rt; "{answer}")?;
-    Ok(())
+    let text = io::read_to_string(rt.alloc(), rt.reader())?;
+    let report = report(rt.alloc(), text.as_str())?;
+    println!(rt; "{report}")
 }

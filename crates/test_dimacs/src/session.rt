@@ -5,16 +5,22 @@ use sat_core::{Answer, Solver};
 use std::alloc::{AllocError, Global};
 
 /// A solver beside the literals of a clause that has not ended yet, and whether its answer is to the last clauses.
-#[derive(Debug, Drop)]
-pub struct Session {
+#[derive(Drop)]
+struct Session {
     alloc: Global,
     solver: Solver,
     clause: Clause,
     answer: Option<Answer>,
 }
 
+/// The answer to the clauses of a text, and how many were learned.
+pub fn report(alloc: Global, text: &str) -> Result<String, AllocError> {
+    let mut session = Session::new(alloc);
+    session.report(text)
+}
+
 impl Session {
-    pub fn new(alloc: Global) -> Self {
+    fn new(alloc: Global) -> Self {
         Session {
             alloc,
             solver: Solver::new(alloc),
@@ -23,33 +29,33 @@ impl Session {
         }
     }
 
+    fn report(&mut self, text: &str) -> Result<String, AllocError> {
+        for line in text.lines() {
+            self.read(line)?;
+        }
+        if self.answer.is_none() {
+            self.ask()?;
+        }
+        let word = word_of(self.answer);
+        format!(in self.alloc; "{word}, {} learned", self.solver.conflicts())
+    }
+
     /// Reads a line: literals and the zeros after clauses, a question, or words that say nothing.
-    pub fn read(&mut self, line: &str) -> Result<(), AllocError> {
-        if line.starts_with("s") {
-            return self.ask();
+    fn read(&mut self, line: &str) -> Result<(), AllocError> {
+        match line.bytes().next() {
+            Some(b's') => self.ask(),
+            Some(b'c' | b'p') => Ok(()),
+            _ => self.read_words(line),
         }
-        if line.starts_with("c") || line.starts_with("p") {
-            return Ok(());
-        }
+    }
+
+    fn read_words(&mut self, line: &str) -> Result<(), AllocError> {
         for word in line.split_whitespace() {
             if let Ok(number) = word.parse::<i64>() {
                 self.take(number)?;
             }
         }
         Ok(())
-    }
-
-    /// The answer to all clauses, and how many were learned.
-    pub fn answer(&mut self) -> Result<String, AllocError> {
-        if self.answer.is_none() {
-            self.ask()?;
-        }
-        let conflicts = self.solver.conflicts();
-        match self.answer {
-            Some(Answer::Sat) => format!(in self.alloc; "satisfiable, {conflicts} learned"),
-            Some(Answer::Unsat) => format!(in self.alloc; "unsatisfiable, {conflicts} learned"),
-            _ => format!(in self.alloc; "no answer, {conflicts} learned"),
-        }
     }
 
     fn ask(&mut self) -> Result<(), AllocError> {
@@ -64,10 +70,8 @@ impl Session {
             return self.end_clause();
         };
         let var = Var(before as usize);
-        self.clause.push(SatLit {
-            var,
-            positive: number > 0,
-        })?;
+        let positive = number > 0;
+        self.clause.push(SatLit { var, positive })?;
         self.make(var)
     }
 
@@ -89,5 +93,13 @@ impl Session {
         }
         self.clause = Clause::new(self.alloc);
         Ok(())
+    }
+}
+
+fn word_of(answer: Option<Answer>) -> &'static str {
+    match answer {
+        Some(Answer::Sat) => "satisfiable",
+        Some(Answer::Unsat) => "unsatisfiable",
+        _ => "no answer",
     }
 }

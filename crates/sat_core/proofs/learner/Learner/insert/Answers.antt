@@ -13,7 +13,7 @@ use Rattle.sat_core.proofs.learner.Learner.insert.Goals as goal
 
 pub insert-requires-clause-over : goal.insert-requires-clause-over
 insert-requires-clause-over c =
-    subst (IsOver (length c.args.self.now.propagator.trail.phases)) (sym (c.in_ok-clause.ensures ∙ c.as_slice-literals.ensures)) (c.requires.learner.ready.over c.args.premise c.named.result.now c.named.ensures)
+    subst (IsOver (length c.args.self.now.propagator.trail.phases)) (sym c.as_slice-clause.ensures) (c.requires.learner.ready.over c.args.premise c.named.result.now c.named.ensures)
 
 pub returns-in_err-inserted-clause-learner : goal.returns-in_err-inserted-clause-learner
 returns-in_err-inserted-clause-learner c =
@@ -29,13 +29,13 @@ pub returns-then-inserted-clause-learner : goal.returns-then-inserted-clause-lea
 returns-then-inserted-clause-learner c =
     let s = c.args.self.now in
     let after = c.insert.new.self in
-    let is : premise_clause s.clauses (results s.log) c.args.premise ≡ Some c.in_ok-clause.clause = c.named.ensures ∙ ap Some (sym (c.in_ok-clause.ensures ∙ c.as_slice-literals.ensures)) in
-    let pushed : texts after.clauses.items ≡ texts s.propagator.clauses.items ++ c.in_ok-clause.clause ∷ [] = c.in_ok-inserted.ensures.inserted c.if-inserted.true in
+    let is : premise_clause s.clauses (results s.log) c.args.premise ≡ Some c.as_slice-clause.result.now = c.named.ensures ∙ ap Some (sym c.as_slice-clause.ensures) in
+    let pushed : texts after.clauses.items ≡ texts s.propagator.clauses.items ++ c.as_slice-clause.result.now ∷ [] = c.in_ok-inserted.ensures.inserted c.if-inserted.true in
     learner_kept s.clauses s.log s.is_refuted s.propagator after s.names.items c.push_reserved.new.self.items s.marks s.marks s.inserted_clauses s.inserted_results
-    (ready_pushed s.clauses (results s.log) s.propagator after c.reserve.new.self.items c.push_reserved.new.self.items s.marks c.args.premise c.in_ok-clause.clause c.push_reserved.ensures.items
+    (ready_pushed s.clauses (results s.log) s.propagator after c.reserve.new.self.items c.push_reserved.new.self.items s.marks c.args.premise c.as_slice-clause.result.now c.push_reserved.ensures.items
     c.insert.ensures.right c.insert.ensures.made pushed is
     (subst (λ (names : List Premise). IsNamedPropagator s.clauses (results s.log) s.propagator names s.marks) (sym c.reserve.ensures.items) c.requires.learner.ready))
-    (Includes-push (texts s.propagator.clauses.items) (texts after.clauses.items) c.in_ok-clause.clause pushed) c.requires.learner
+    (Includes-push (texts s.propagator.clauses.items) (texts after.clauses.items) c.as_slice-clause.result.now pushed) c.requires.learner
 
 pub returns-else-inserted-clause-learner : goal.returns-else-inserted-clause-learner
 returns-else-inserted-clause-learner c =
@@ -51,5 +51,5 @@ pub returns-else-inserted-clause-falsified : goal.returns-else-inserted-clause-f
 returns-else-inserted-clause-falsified c =
     let s = c.args.self.now in
     let trail = literals c.insert.new.self.trail.steps in
-    let is : premise_clause s.clauses (results s.log) c.args.premise ≡ Some c.in_ok-clause.clause = c.named.ensures ∙ ap Some (sym (c.in_ok-clause.ensures ∙ c.as_slice-literals.ensures)) in
-    λ clause e at. subst (IsFalseIn trail) (same_Some c.in_ok-clause.clause clause (sym is ∙ at)) (c.in_ok-inserted.ensures.falsified e)
+    let is : premise_clause s.clauses (results s.log) c.args.premise ≡ Some c.as_slice-clause.result.now = c.named.ensures ∙ ap Some (sym c.as_slice-clause.ensures) in
+    λ clause e at. subst (IsFalseIn trail) (same_Some c.as_slice-clause.result.now clause (sym is ∙ at)) (c.in_ok-inserted.ensures.falsified e)
