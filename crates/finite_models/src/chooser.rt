@@ -12,10 +12,18 @@ use std::marker::Model;
 use stt_core::{Head, Nf, Nfs, Ty};
 
 /// The choice or the description on a type.
-#[derive(Drop)]
 pub enum Chooser {
     Choice(Ty),
     Description(Ty),
+}
+
+// Written out, so that a proof takes a drop as one call.
+impl Drop for Chooser {
+    fn drop(self) {
+        match self {
+            Chooser::Choice(_) | Chooser::Description(_) => {}
+        }
+    }
 }
 
 impl Chooser {
@@ -107,7 +115,7 @@ impl Choosers {
         ensures { OnOk result (self.new ≡ with_symbols self.old (the_chooser chooser ∷ [])) }
     {
         match self.place_of(&chooser) {
-            None => Ok(self.push(chooser)?),
+            None => self.push(chooser),
             Some(_) => Ok(()),
         }
     }
@@ -116,7 +124,7 @@ impl Choosers {
         ensures { OnOk result (self.new ≡ with_symbols self.old (choosing_symbols (the_head head.now))) }
     {
         match Chooser::of(alloc, head)? {
-            Some(chooser) => Ok(self.add(chooser)?),
+            Some(chooser) => self.add(chooser),
             None => Ok(()),
         }
     }

@@ -86,7 +86,7 @@ fn compile_from(
             let function = Box::new(alloc, expr)?;
             let place = Box::new(alloc, given)?;
             let applied = Expr::Apply(base, function, place);
-            Ok(compile_from(alloc, frame, ctx, to, applied, head, args, i + 1)?)
+            compile_from(alloc, frame, ctx, to, applied, head, args, i + 1)
         }
         Ty::Base(_) => unreachable!(),
     }
@@ -112,7 +112,7 @@ fn compile_applied(
     };
     let leaf = compile_leaf(alloc, frame, head)?;
     match head_type(alloc, &declared, ctx, head)? {
-        Some(ty) => Ok(compile_from(alloc, frame, ctx, &ty, leaf, head, args, 0)?),
+        Some(ty) => compile_from(alloc, frame, ctx, &ty, leaf, head, args, 0),
         None => unreachable!(),
     }
 }
@@ -124,7 +124,7 @@ fn compile_truth(alloc: Global, frame: &Frame, ctx: &Context, nf: &Nf) -> Result
     requires term { CanCompileIn frame.now (the_context ctx.now) formula nf.now }
     ensures { IfOk result (λ e. StandsIn frame.now (the_context ctx.now) nf.now e) }
 {
-    Ok(compile_spine(alloc, frame, ctx, &nf.head, &nf.args)?)
+    compile_spine(alloc, frame, ctx, &nf.head, &nf.args)
 }
 
 /// The negation of a formula.
@@ -225,15 +225,15 @@ fn compile_spine(
 {
     match head {
         Head::False => Ok(Expr::False),
-        Head::Not => Ok(compile_negation(alloc, frame, ctx, args)?),
-        Head::Imp => Ok(compile_implication(alloc, frame, ctx, args)?),
-        Head::Eq(a) => Ok(compile_equation(alloc, frame, ctx, a, args)?),
-        Head::All(a) => Ok(compile_every(alloc, frame, ctx, a, args)?),
-        Head::Bound(_) => Ok(compile_applied(alloc, frame, ctx, head, args)?),
-        Head::Name(_) => Ok(compile_applied(alloc, frame, ctx, head, args)?),
+        Head::Not => compile_negation(alloc, frame, ctx, args),
+        Head::Imp => compile_implication(alloc, frame, ctx, args),
+        Head::Eq(a) => compile_equation(alloc, frame, ctx, a, args),
+        Head::All(a) => compile_every(alloc, frame, ctx, a, args),
+        Head::Bound(_) => compile_applied(alloc, frame, ctx, head, args),
+        Head::Name(_) => compile_applied(alloc, frame, ctx, head, args),
         Head::Wit(_) => unreachable!(),
-        Head::Choice(_) => Ok(compile_applied(alloc, frame, ctx, head, args)?),
-        Head::Desc(_) => Ok(compile_applied(alloc, frame, ctx, head, args)?),
+        Head::Choice(_) => compile_applied(alloc, frame, ctx, head, args),
+        Head::Desc(_) => compile_applied(alloc, frame, ctx, head, args),
     }
 }
 
@@ -254,7 +254,7 @@ fn compile_under(
     ensures { IfOk result (λ e. StandsIn frame.now (the_context ctx.now) (term_from i binders.now (the_head head.now) args.now) e) }
 {
     if i >= binders.len() {
-        return Ok(compile_spine(alloc, frame, ctx, head, args)?);
+        return compile_spine(alloc, frame, ctx, head, args);
     }
     match ty {
         Ty::Arrow(_argument, outcome) => {
@@ -264,7 +264,7 @@ fn compile_under(
             let rest = compile_under(alloc, frame, &inner, to, binders, i + 1, head, args)?;
             let base = size_of(to, frame.size);
             let entries = size_of(a, frame.size);
-            Ok(table_of(alloc, base, entries, rest)?)
+            table_of(alloc, base, entries, rest)
         }
         Ty::Base(_) => unreachable!(),
     }
@@ -283,7 +283,7 @@ fn compile(
     requires term { CanCompileIn frame.now (the_context ctx.now) (the_type ty.now) nf.now }
     ensures { IfOk result (λ e. StandsIn frame.now (the_context ctx.now) nf.now e) }
 {
-    Ok(compile_under(alloc, frame, ctx, ty, &nf.binders, 0, &nf.head, &nf.args)?)
+    compile_under(alloc, frame, ctx, ty, &nf.binders, 0, &nf.head, &nf.args)
 }
 
 /// The expression of a closed canonical formula.
@@ -293,5 +293,5 @@ pub fn compile_formula(alloc: Global, frame: &Frame, nf: &Nf) -> Result<Expr, Al
     ensures { IfOk result (λ e. StandsIn frame.now [] nf.now e) }
 {
     let outside = Context::Empty;
-    Ok(compile_truth(alloc, frame, &outside, nf)?)
+    compile_truth(alloc, frame, &outside, nf)
 }

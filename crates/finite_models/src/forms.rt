@@ -53,7 +53,7 @@ fn tree_of(bank: &Bank, id: Id, room: &mut usize) -> Result<Nf, AllocError>
     if !take_room(bank, id, room) {
         return Err(AllocError);
     }
-    Ok(bank.export(id)?)
+    bank.export(id)
 }
 
 /// The normal form of a formula.
@@ -70,7 +70,7 @@ fn form_of(
     ensures right { IsRightNormaliser normaliser.new bank.new }
 {
     let id = normaliser.normalise(bank, formula)?;
-    Ok(tree_of(bank, id, room)?)
+    tree_of(bank, id, room)
 }
 
 /// The normal forms of the assumed formulas.

@@ -248,9 +248,9 @@ fn domain_of(
 {
     let declared = sig.consts.len();
     if i < declared {
-        Ok(all_values(alloc, size)?)
+        all_values(alloc, size)
     } else {
-        Ok(lawful_values(alloc, choosers.at(i - declared), s, size)?)
+        lawful_values(alloc, choosers.at(i - declared), s, size)
     }
 }
 
@@ -335,7 +335,7 @@ fn checks_for(
         choosers: &*choosers,
         size: s,
     };
-    Ok(checks_of(alloc, &frame, formulas, assumed)?)
+    checks_of(alloc, &frame, formulas, assumed)
 }
 
 /// Looks through the lists of values where the types are small.
@@ -355,7 +355,7 @@ fn look_through(
 {
     let domains = domains_of(alloc, sig, choosers, s, sizes)?;
     let checks = checks_for(alloc, sig, formulas, choosers, assumed, s)?;
-    Ok(first_sorted(alloc, &domains, checks)?)
+    first_sorted(alloc, &domains, checks)
 }
 
 /// Looks at one size, where the types are small.
@@ -408,7 +408,7 @@ fn look(
     }
     match sizes_of(alloc, &problem.signature, choosers, s)? {
         None => Ok(Looked::TooMany),
-        Some(sizes) => Ok(look_sized(alloc, problem, formulas, choosers, s, &sizes)?),
+        Some(sizes) => look_sized(alloc, problem, formulas, choosers, s, &sizes),
     }
 }
 
@@ -418,7 +418,7 @@ pub fn choosers_of(alloc: Global, problem: &Problem) -> Result<Choosers, AllocEr
     ensures { IfOk result (λ cs. symbols_with (scope_of problem.now.declared) cs ≡ model_symbols problem.now) }
 {
     let formulas = formulas_of(alloc, problem)?;
-    Ok(Choosers::of(alloc, &formulas)?)
+    Choosers::of(alloc, &formulas)
 }
 
 /// The first finite model of a typed problem whose base types from `$i` on all have one size, which is at most `upto`: its size and the

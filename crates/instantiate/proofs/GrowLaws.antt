@@ -1,5 +1,5 @@
 -- What a partial term grows to is typed.
-use Rattle.std.specs.Prelude.{◌≡◌, ℕ, nat_eq, Bool, true, false, List, [], Some, None, unwrap_or, refl, if◌then◌else◌}
+use Rattle.std.specs.Prelude.{◌≡◌, ℕ, nat_eq, Bool, true, false, List, [], Option, Some, None, unwrap_or, refl, if◌then◌else◌}
 use Rattle.std.proofs.Common.{ap, sym, ◌∙◌, subst}
 use Rattle.std.proofs.lemmas.Option.{same_Some}
 use Rattle.std.proofs.lemmas.Bool.{eqb-true}
@@ -20,9 +20,9 @@ use Rattle.search_spec.specs.TypedState.{IsTypedSketch}
 use Rattle.search_spec.proofs.PartialLaws.{Fills, with_holes_typed, fills, whole_canonical}
 use Rattle.search_spec.proofs.TypedHeads.{DeclaredAt, declared_at}
 use Rattle.instantiate.specs.Growing.{IsTypedPartialTerm, TakesHead, IsTerm, IsPartOf}
-use Rattle.instantiate.specs.Internal.Holes.{base_in, placed_partial, filling}
+use Rattle.instantiate.specs.Internal.Holes.{base_in}
 use Rattle.instantiate.specs.Internal.Blanks.{term_of}
-use Rattle.instantiate.specs.Internal.Fitting.{to_base, fitting}
+use Rattle.instantiate.specs.Internal.Fitting.{to_base, fitting, HasGrown}
 use Rattle.instantiate.proofs.WholeLaws.{whole-none, whole-hole}
 
 pub head_leaf : (h : Head) → IsLeaf (the_head h)
@@ -68,40 +68,32 @@ module _ (scope : Scope) (good : IsScope scope) where
       let OfBase : ℕ → Type 0 = λ n. IsPartial scope at.context (base n) (with_holes a (head h)) in
       subst OfBase gives (with_holes_typed scope at.context a (head h) (leaf_declared at.context a h d leaf type) (leaf, leaf_neutral at.context a h leaf type))
 
-  copy_is : (p r q s : Partial) → with_filling r p ≡ Some s → q ≡ (filling (Some r) p).0 → q ≡ s
-  copy_is p r q s f copy = copy ∙ ap (λ o. (placed_partial r p o).0) f
-
   filled_is : (p : Partial) (h : Lambda) (at : Hole) (a : SimpleType) (q : Partial) → first_hole [] p ≡ Some at → type_of scope at.context h ≡ Some a → with_filling (with_holes a (head h)) p ≡ Some q → filling_at scope h p (first_hole [] p) ≡ Some q
   filled_is p h at a q first type f = ap (filling_at scope h p) first ∙ ap (λ o. with_filling (with_holes (unwrap_or o formula) (head h)) p) type ∙ f
 
-  -- the partial term with the head in its first hole
-  pub record HasGrown (h : Lambda) (p q : Partial) (a : SimpleType) : Type 0 where
-    pub is_filled : filling_at scope h p (first_hole [] p) ≡ Some q
-    pub typed : IsPartial scope [] a q
-
-  at_hole : (p : Partial) (h : Lambda) (b : SimpleType) → IsTypedSketch scope (record { type = b; partial = p }) → IsLeaf h → (at : Hole) → first_hole [] p ≡ Some at → (a : SimpleType) → type_of scope at.context h ≡ Some a → target a ≡ at.base → (r q : Partial) → r ≡ with_holes a (head h) → q ≡ (filling (Some r) p).0 → HasGrown h p q b
-  at_hole p h b sketch leaf at first a type gives r q is copy =
+  at_hole : (p : Partial) (h : Lambda) (b : SimpleType) → IsTypedSketch scope (record { type = b; partial = p }) → IsLeaf h → (at : Hole) → first_hole [] p ≡ Some at → (a : SimpleType) → type_of scope at.context h ≡ Some a → target a ≡ at.base → (q : Partial) → q ≡ unwrap_or (with_filling (with_holes a (head h)) p) p → HasGrown scope h p q b
+  at_hole p h b sketch leaf at first a type gives q copy =
       let d : DeclaredAt scope good at = declared_at scope good [] b p at tt sketch.declared sketch.typed first in
       go (fills scope (with_holes a (head h)) at (holes_typed at a h d.context leaf type gives) [] b p sketch.typed first)
     where
-      go : Fills scope (IsPartial scope [] b) (with_holes a (head h)) p → HasGrown h p q b
+      go : Fills scope (IsPartial scope [] b) (with_holes a (head h)) p → HasGrown scope h p q b
       go f =
-          let same : q ≡ f.0 = copy_is p (with_holes a (head h)) q f.0 f.1 (copy ∙ ap (λ s. (filling (Some s) p).0) is) in
+          let same : q ≡ f.0 = copy ∙ ap (λ (o : Option Partial). unwrap_or o p) f.1 in
           let Typed : Partial → Type 0 = λ s. IsPartial scope [] b s in
           record { is_filled = filled_is p h at a q first type (f.1 ∙ ap Some (sym same)); typed = subst Typed (sym same) f.2 }
 
-  pub has_grown : (p : Partial) (h : Lambda) (typed : IsTypedPartialTerm scope p) (takes : TakesHead scope p h) → IsLeaf h → (a : SimpleType) (r q : Partial) → Some a ≡ fitting scope h (first_hole [] p) → r ≡ with_holes a (head h) → q ≡ (filling (Some r) p).0 → HasGrown h p q typed.type
-  has_grown p h typed takes leaf a r q fit is copy =
+  pub has_grown : (p : Partial) (h : Lambda) (typed : IsTypedPartialTerm scope p) (takes : TakesHead scope p h) → IsLeaf h → (a : SimpleType) (q : Partial) → Some a ≡ fitting scope h (first_hole [] p) → q ≡ unwrap_or (with_filling (with_holes a (head h)) p) p → HasGrown scope h p q typed.type
+  has_grown p h typed takes leaf a q fit copy =
       let f : Fits a takes.type takes.hole.base = fits_base takes.hole.base a takes.type (fit ∙ ap (fitting scope h) takes.is_first ∙ ap (to_base takes.hole.base) takes.has_type) in
-      at_hole p h typed.type typed.sketch leaf takes.hole takes.is_first a (takes.has_type ∙ ap Some f.same) f.gives r q is copy
+      at_hole p h typed.type typed.sketch leaf takes.hole takes.is_first a (takes.has_type ∙ ap Some f.same) f.gives q copy
 
   -- where holes are left
-  pub part_of : (p : Partial) (h : Lambda) (q : Partial) (a : SimpleType) (n : ℕ) → HasGrown h p q a → Some n ≡ base_in q → IsPartOf scope h p q
+  pub part_of : (p : Partial) (h : Lambda) (q : Partial) (a : SimpleType) (n : ℕ) → HasGrown scope h p q a → Some n ≡ base_in q → IsPartOf scope h p q
   part_of p h q a n g e = record { is_filled = g.is_filled; has_hole = whole-hole q n e }
 
   -- where none is
-  pub whole_typed : (p : Partial) (h : Lambda) (q : Partial) (a : SimpleType) → HasGrown h p q a → base_in q ≡ None → IsTypedTerm scope (term_of q)
+  pub whole_typed : (p : Partial) (h : Lambda) (q : Partial) (a : SimpleType) → HasGrown scope h p q a → base_in q ≡ None → IsTypedTerm scope (term_of q)
   whole_typed p h q a g e = record { ctx = []; type = a; canonical = whole_canonical scope [] a q (term_of q) g.typed (whole-none q e) }
 
-  pub is_term : (p : Partial) (h : Lambda) (q : Partial) (a : SimpleType) (b : Content) (id : ℕ) → HasGrown h p q a → base_in q ≡ None → HasTerm b id (term_of q) → IsTerm scope h p b id
+  pub is_term : (p : Partial) (h : Lambda) (q : Partial) (a : SimpleType) (b : Content) (id : ℕ) → HasGrown scope h p q a → base_in q ≡ None → HasTerm b id (term_of q) → IsTerm scope h p b id
   is_term p h q a b id g e has = record { filled = q; is_filled = g.is_filled; term = term_of q; is_whole = whole-none q e; stands = has }

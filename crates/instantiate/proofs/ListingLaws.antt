@@ -6,7 +6,7 @@ use Rattle.std.proofs.lemmas.Option.{same_Some}
 use Rattle.stt_core.specs.SimpleType.{SimpleType, same_type}
 use Rattle.stt_core.proofs.TypeLaws.{same_type-true}
 use Rattle.instantiate.specs.Listing.{Listing, ids_of, with_listed}
-use Rattle.instantiate.specs.Internal.Groups.{Group, first_group, group_place, AreRightGroups}
+use Rattle.instantiate.specs.Internal.Groups.{Group, first_group, group_place, AreRightGroups, HasOneMore}
 
 -- what stands at the place of a type
 pub at_place : (a : SimpleType) (gs : List Group) (g : Group) → slice_get gs (group_place a gs) ≡ Some g → (same_type a g.0 ≡ true) × (first_group a gs ≡ g.1)
@@ -101,22 +101,23 @@ by_type a c xs ys is os here else' = go (same_type c a) refl
     go true e = here e
     go false e = else'
 
-pub further_right : (gs after : List Group) (all : List Listing) (a : SimpleType) (g : Group) (id : ℕ) → AreRightGroups gs all → slice_get gs (group_place a gs) ≡ Some g → after ≡ set gs (group_place a gs) (g.0, g.1 ++ id ∷ []) → AreRightGroups after (all ++ (a, id) ∷ [])
-further_right gs after all a g id right here is c =
+-- a term in the list of its type, or in a new one
+pub more_old : (gs after : List Group) (a : SimpleType) (g : Group) (id : ℕ) → slice_get gs (group_place a gs) ≡ Some g → after ≡ set gs (group_place a gs) (g.0, g.1 ++ id ∷ []) → HasOneMore a id gs after
+more_old gs after a g id here is c =
     ap (first_group c) is ∙ set-first a gs g (g.1 ++ id ∷ []) here c
-    ∙ by_type a c (g.1 ++ id ∷ []) (first_group c gs) (ids_of c all ++ id ∷ []) (ids_of c all)
-    (λ e. ap (λ is. is ++ id ∷ []) (sym (at_place a gs g here).1 ∙ ap (λ x. first_group x gs) (sym (same_type-true c a e)) ∙ right c)) (right c)
-    ∙ sym (ids-end all a c id)
+    ∙ by_type a c (g.1 ++ id ∷ []) (first_group c gs) (first_group c gs ++ id ∷ []) (first_group c gs)
+    (λ e. ap (λ is. is ++ id ∷ []) (sym (at_place a gs g here).1 ∙ ap (λ x. first_group x gs) (sym (same_type-true c a e)))) refl
 
-pub first_right : (gs : List Group) (all : List Listing) (a : SimpleType) (id : ℕ) → AreRightGroups gs all → group_place a gs ≡ length gs → AreRightGroups (gs ++ (a, id ∷ []) ∷ []) (all ++ (a, id) ∷ [])
-first_right gs all a id right at c =
-    end-first a gs (id ∷ []) at c
-    ∙ by_type a c (id ∷ []) (first_group c gs) (ids_of c all ++ id ∷ []) (ids_of c all)
-    (λ e. ap (λ is. is ++ id ∷ []) (sym (at_end a gs at) ∙ ap (λ x. first_group x gs) (sym (same_type-true c a e)) ∙ right c)) (right c)
-    ∙ sym (ids-end all a c id)
+pub more_new : (gs after : List Group) (a : SimpleType) (id : ℕ) → group_place a gs ≡ length gs → after ≡ gs ++ (a, id ∷ []) ∷ [] → HasOneMore a id gs after
+more_new gs after a id at is c =
+    ap (first_group c) is ∙ end-first a gs (id ∷ []) at c
+    ∙ by_type a c (id ∷ []) (first_group c gs) (first_group c gs ++ id ∷ []) (first_group c gs)
+    (λ e. ap (λ is. is ++ id ∷ []) (sym (at_end a gs at) ∙ ap (λ x. first_group x gs) (sym (same_type-true c a e)))) refl
 
-pub none_there : (gs : List Group) (all : List Listing) (a : SimpleType) (n id : ℕ) → AreRightGroups gs all → n ≡ group_place a gs → n ≡ length gs → list_any (nat_eq id) (ids_of a all) ≡ false
-none_there gs all a n id right at end = ap (list_any (nat_eq id)) (sym (right a) ∙ at_end a gs (sym at ∙ end))
+pub more_right : (gs after : List Group) (all : List Listing) (a : SimpleType) (id : ℕ) → AreRightGroups gs all → HasOneMore a id gs after → AreRightGroups after (all ++ (a, id) ∷ [])
+more_right gs after all a id right more c =
+    more c ∙ by_type a c (first_group c gs ++ id ∷ []) (first_group c gs) (ids_of c all ++ id ∷ []) (ids_of c all) (λ e. ap (λ is. is ++ id ∷ []) (right c)) (right c)
+    ∙ sym (ids-end all a c id)
 
 here_place : (gs ss ds : List Group) (a : SimpleType) (n : ℕ) (o : Option Group) → ss ≡ gs → n ≡ group_place a ss → ds ≡ gs → slice_get ds n ≡ o → slice_get gs (group_place a gs) ≡ o
 here_place gs ss ds a n o same at deref h = ap₂ slice_get (sym deref) (ap (group_place a) (sym same) ∙ sym at) ∙ h
@@ -133,11 +134,3 @@ with_new all after a id h e = e ∙ sym (ap (λ (b : Bool). if b then all else a
 
 pub with_old : (all : List Listing) (a : SimpleType) (id : ℕ) → list_any (nat_eq id) (ids_of a all) ≡ true → all ≡ with_listed a id all
 with_old all a id h = sym (ap (λ (b : Bool). if b then all else all ++ (a, id) ∷ []) h)
-
-pub set_right : (gs ss after : List Group) (all : List Listing) (a : SimpleType) (n id : ℕ) (g : Group) → AreRightGroups gs all → ss ≡ gs → n ≡ group_place a ss → slice_get gs n ≡ Some g → after ≡ set gs n (g.0, g.1 ++ id ∷ []) → AreRightGroups after (all ++ (a, id) ∷ [])
-set_right gs ss after all a n id g right same at here is =
-    let place : n ≡ group_place a gs = at ∙ ap (group_place a) same in
-    further_right gs after all a g id right (ap (slice_get gs) (sym place) ∙ here) (is ∙ ap (λ (k : ℕ). set gs k (g.0, g.1 ++ id ∷ [])) place)
-
-pub shown_at : (gs : List Group) (all : List Listing) (a : SimpleType) (n : ℕ) (g : Group) → AreRightGroups gs all → n ≡ group_place a gs → slice_get gs n ≡ Some g → g.1 ≡ ids_of a all
-shown_at gs all a n g right at h = shown gs gs gs all a n g right refl at refl h

@@ -1,9 +1,9 @@
 //! Terms by type, in the order in which they came.
-ghost use Rattle.std.specs.Prelude.{◌≡◌, ◌≤◌, ◌++◌, [], ◌∷◌, not, length, nat_eq, IfOk, OnOk, OnErr};
+ghost use Rattle.std.specs.Prelude.{◌≡◌, ◌≤◌, ◌++◌, [], ◌∷◌, true, false, not, length, nat_eq, IfOk, OnOk, OnErr};
 ghost use Rattle.std.specs.List.{list_any};
 ghost use Rattle.stt_core.specs.View.{the_type};
 ghost use Rattle.instantiate.specs.Listing.{ids_of, with_listed};
-ghost use Rattle.instantiate.specs.Internal.Groups.{group_place};
+ghost use Rattle.instantiate.specs.Internal.Groups.{first_group, group_place, HasOneMore};
 
 use crate::list::{Listed, TermList};
 use std::alloc::{AllocError, Global};
@@ -63,23 +63,33 @@ impl Enumerator {
         ensures fresh { IfOk result (λ is_new. is_new ≡ not (list_any (nat_eq id) (ids_of (the_type ty.now) self.old))) }
         ensures err { OnErr result (self.new ≡ self.old) }
     {
-        let place = place_of(self.lists.as_slice(), ty);
+        self.order.reserve(1)?;
         let listed = Listed::new(self.alloc, ty, id)?;
-        if place == self.lists.len() {
-            let list = TermList::new(self.alloc, ty, id)?;
-            self.order.reserve(1)?;
-            self.lists.push(list)?;
-            self.order.push(listed)?;
-            return Ok(true);
-        }
-        if self.lists[place].has(id) {
+        if !add_to(self.alloc, &mut self.lists, ty, id)? {
             return Ok(false);
         }
-        self.order.reserve(1)?;
-        self.lists[place].push(id)?;
         self.order.push(listed)?;
         Ok(true)
     }
+}
+
+/// Adds a term to the list of its type: false where it is there.
+fn add_to(alloc: Global, lists: &mut Vec<TermList>, ty: &Ty, id: Id) -> Result<bool, AllocError>
+    ensures fresh { IfOk result (λ is_new. is_new ≡ not (list_any (nat_eq id) (first_group (the_type ty.now) lists.old.items))) }
+    ensures more { IfOk result (λ is_new. is_new ≡ true → HasOneMore (the_type ty.now) id lists.old.items lists.new.items) }
+    ensures same { IfOk result (λ is_new. is_new ≡ false → lists.new.items ≡ lists.old.items) }
+    ensures err { OnErr result (lists.new.items ≡ lists.old.items) }
+{
+    let place = place_of(lists.as_slice(), ty);
+    if place == lists.len() {
+        lists.push(TermList::new(alloc, ty, id)?)?;
+        return Ok(true);
+    }
+    if lists[place].has(id) {
+        return Ok(false);
+    }
+    lists[place].push(id)?;
+    Ok(true)
 }
 
 /// The place of the first list of the type, or the end.

@@ -5,13 +5,13 @@ ghost use Rattle.stt_core.specs.SimpleType.{target};
 ghost use Rattle.search_spec.specs.Partial.{first_hole};
 ghost use Rattle.term_bank.specs.Content.{content_scope, Grows};
 ghost use Rattle.instantiate.specs.Growing.{IsTypedPartialTerm, TakesHead, fits, IsGrown};
-ghost use Rattle.instantiate.specs.Internal.Fitting.{fitting};
+ghost use Rattle.instantiate.specs.Internal.Fitting.{fitting, IsFilledWith};
 
 use crate::enumerator::Enumerator;
 use crate::partial::Partial;
 use crate::slot::{Slot, slot_in};
 use crate::whole::intern;
-use std::alloc::AllocError;
+use std::alloc::{AllocError, Global};
 use stt_core::{Context, Head, Ty};
 use term_bank::{Bank, Id};
 
@@ -49,6 +49,26 @@ fn fitting_type(bank: &Bank, partial: &Partial, head: &Head) -> Result<Option<Ty
     }
 }
 
+/// The partial term with a head in its first hole, where the head's target type is the hole's. The head gets one new hole, under its
+/// binders, for each argument.
+fn with_fitting(
+    alloc: Global,
+    bank: &Bank,
+    partial: Partial,
+    head: &Head,
+) -> Result<Option<Partial>, AllocError>
+    requires { TakesHead (content_scope bank.now) partial (the_head head.now) }
+    ensures fits { IfOk result (λ o. is_some o ≡ fits (content_scope bank.now) (the_head head.now) (first_hole [] partial)) }
+    ensures filled { IfOk result (λ o. IfSome o (IsFilledWith (content_scope bank.now) (the_head head.now) partial)) }
+{
+    // The signature is asked for its clause that what is declared is over it.
+    let _declared = bank.sig();
+    match fitting_type(bank, &partial, head)? {
+        Some(ty) => Ok(Some(partial.with_head(alloc, head, &ty)?)),
+        None => Ok(None),
+    }
+}
+
 impl Enumerator {
     /// Fills the first hole of a partial term with a head, which gets one new hole, under its binders, for each argument. There is no
     /// answer where the head's target type isn't the hole's. Where memory runs out, the bank may have got further terms.
@@ -64,14 +84,10 @@ impl Enumerator {
         ensures grown { IfOk result (λ o. IfSome o (λ g. IsGrown (content_scope bank.old) (the_head head.now) partial bank.new g)) }
         ensures grows { Grows bank.old bank.new }
     {
-        let Some(ty) = fitting_type(bank, &partial, head)? else {
+        let _declared = bank.sig();
+        let Some(grown) = with_fitting(self.alloc, bank, partial, head)? else {
             return Ok(None);
         };
-        // The signature is asked for its clause that what is declared is over it.
-        let _declared = bank.sig();
-        let mut filler = Some(Partial::with_holes(self.alloc, head, &ty)?);
-        let mut grown = partial;
-        grown.fill(&mut filler);
         match grown.hole_base() {
             Some(_) => Ok(Some(Grown::More(grown))),
             None => Ok(Some(Grown::Term(intern(self.alloc, bank, &grown)?))),

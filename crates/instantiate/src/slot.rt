@@ -36,9 +36,9 @@ pub(crate) fn slot_in(
         })),
         PartialNode::Lam(ty, body) => {
             let inner = Context::Inner(&*ty, &*ctx);
-            Ok(slot_in(bank, &inner, body, head)?)
+            slot_in(bank, &inner, body, head)
         }
-        PartialNode::App(_, args) => Ok(slot_among(bank, ctx, args, head)?),
+        PartialNode::App(_, args) => slot_among(bank, ctx, args, head),
     }
 }
 

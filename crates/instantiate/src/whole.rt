@@ -23,11 +23,11 @@ pub(crate) fn intern(alloc: Global, bank: &mut Bank, partial: &Partial) -> Resul
         PartialNode::Hole(_) => unreachable!(),
         PartialNode::Lam(ty, body) => {
             let body = intern(alloc, bank, body)?;
-            Ok(bank.intern_lam(ty, body)?)
+            bank.intern_lam(ty, body)
         }
         PartialNode::App(head, args) => {
             let args = intern_all(alloc, bank, args)?;
-            Ok(bank.intern_app(head, args.as_slice())?)
+            bank.intern_app(head, args.as_slice())
         }
     }
 }

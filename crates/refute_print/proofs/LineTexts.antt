@@ -1,19 +1,24 @@
 -- The text of lines is that of their pieces.
-use Rattle.std.proofs.Common.{◌≡◌, ◌<◌, ℕ, zero, suc, length, List, [], ◌∷◌, ◌++◌, map, slice_get, Some, codes, decimal, refl, sym, ap, subst, ◌∙◌, append_assoc}
+use Rattle.std.proofs.Common.{◌≡◌, ◌<◌, ℕ, Bool, zero, suc, length, List, [], ◌∷◌, ◌++◌, map, slice_get, Some, codes, decimal, refl, sym, ap, subst, ◌∙◌, append_assoc}
 use Rattle.tableau_calculus.specs.Literals.{Literal}
 use Rattle.tableau_calculus.specs.Witnesses.{Row}
 use Rattle.tableau_calculus.specs.declared.refutation.Child.{Child}
 use Rattle.tableau_calculus.specs.declared.refutation.Line.{Line}
 use Rattle.thf_names.specs.Names.{name_text}
 use Rattle.refute_print.specs.Trees.{RefutationTree}
-use Rattle.refute_print.specs.Text.{version_text, definition_text, text_lines, term_text, literal_text, child_text, rule_text, after_commas, comma_separated, branch_text, children_text, row_texts, line_texts, as_bytes}
+use Rattle.stt_core.specs.Lambda.{Lambda}
+use Rattle.refute_print.specs.Text.{sign_text, version_text, definition_text, text_lines, term_text, literal_text, child_text, rule_text, after_commas, comma_separated, branch_text, children_text, row_texts, line_texts, as_bytes}
 use Rattle.refute_print.specs.Named.{Names, name_numbered, ArePlaces, named_term, named_literal, named_rule, named_line, HasNames, HaveNames, HasLineNames, RowsHaveNames, LinesHaveNames}
 use Rattle.refute_print.specs.Internal.Pieces.{version_line, definition_line, comma_before, literal_piece, child_piece, row_line, line_line}
 use Rattle.refute_print.proofs.Lists.{all_texts}
 
--- a text that ends with a number, and what follows it
-pub numbered_then : (a d rest : List ℕ) → (a ++ (d ++ [])) ++ rest ≡ a ++ (d ++ rest)
-numbered_then a d rest = append_assoc a (d ++ []) rest ∙ ap (λ x. a ++ x) (append_assoc d [] rest)
+-- a text before a number and one behind it, and what follows
+pub numbered_before : (a d b rest : List ℕ) → (a ++ (d ++ b)) ++ rest ≡ a ++ (d ++ (b ++ rest))
+numbered_before a d b rest = append_assoc a (d ++ b) rest ∙ ap (λ x. a ++ x) (append_assoc d b rest)
+
+-- the literal of a cut
+pub cut_text : (names : Names) (positive : Bool) (atom : Lambda) → (codes "Cut(" ++ sign_text positive) ++ (term_text (named_term names atom) ++ codes ")") ≡ codes "Cut(" ++ ((sign_text positive ++ term_text (named_term names atom)) ++ codes ")")
+cut_text names positive atom = ap (λ x. codes "Cut(" ++ x) (sym (append_assoc (sign_text positive) (term_text (named_term names atom)) (codes ")")))
 
 later_members : {X : Type 0} (f : X → List ℕ) (k : ℕ) (xs : List X) → all_texts (λ i x. comma_before i ++ f x) (suc k) xs ≡ after_commas (map f xs)
 later_members f k [] = refl

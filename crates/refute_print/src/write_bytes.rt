@@ -11,8 +11,7 @@ pub(crate) fn write<S: Sink>(sink: &mut S, bytes: &[u8]) -> Result<(), Failed>
     ensures took { OnOk result (Took S.tells S.written S.faults sink.old sink.new bytes.now) }
     ensures stopped { OnErr result (Stopped S.tells S.written S.faults sink.old sink.new bytes.now) }
 {
-    write_all_counted(sink, bytes)?;
-    Ok(())
+    write_all_counted(sink, bytes)
 }
 
 /// Writes a number between two texts.
@@ -27,6 +26,5 @@ pub(crate) fn write_numbered<S: Sink>(
 {
     let mut buffer = Buffer::new();
     let digits = buffer.format(number).as_bytes();
-    write_pieces(sink, &[before, digits, after])?;
-    Ok(())
+    write_pieces(sink, &[before, digits, after])
 }

@@ -1,27 +1,30 @@
 //! Writes rows and lines.
 
-ghost use Rattle.std.specs.Prelude.{◌≡◌, ◌++◌, map, OnOk, OnErr};
-ghost use Rattle.refute_print.specs.Text.{sign_text, child_text, branch_text, children_text, row_texts, line_texts, as_bytes};
+ghost use Rattle.std.specs.Prelude.{◌≡◌, ◌++◌, codes, map, OnOk, OnErr};
+ghost use Rattle.refute_print.specs.Text.{sign_text, branch_text, children_text, row_texts, line_texts, as_bytes};
 ghost use Rattle.refute_print.specs.Named.{names_of, named_term, named_literal, named_line, HasNames, HaveNames, HasLineNames, RowsHaveNames, LinesHaveNames};
 ghost use Rattle.refute_print.specs.Internal.Pieces.{comma_before, literal_piece, child_piece, row_line, line_end, line_line};
 ghost use Rattle.outside.specs.Writing.{Took, Stopped};
 
 use crate::write_bytes::{write, write_numbered};
 use crate::write_rule::write_rule;
-use crate::write_term::write_term;
+use crate::write_term::{write_term, write_term_between};
 use outside::{Failed, Sink};
 use stt_core::Signature;
 use tableau_calculus::{Child, Children, Line, Lines, Lit, Lits, Rows, WitnessRow};
 
-/// Writes the comma before the member of a list at this place, which the first one has not.
-fn write_comma<S: Sink>(sink: &mut S, place: usize) -> Result<(), Failed>
-    ensures took { OnOk result (Took S.tells S.written S.faults sink.old sink.new (comma_before place)) }
-    ensures stopped { OnErr result (Stopped S.tells S.written S.faults sink.old sink.new (comma_before place)) }
+/// The comma before the member of a list at this place, which the first one has not.
+fn comma(place: usize) -> &'static [u8]
+    ensures { result.now ≡ comma_before place }
 {
-    if place > 0 {
-        write(sink, b",")?;
-    }
-    Ok(())
+    if place > 0 { b"," } else { b"" }
+}
+
+/// The text of a closed child at this place of a list, with the comma before it.
+fn closed_child(place: usize) -> &'static [u8]
+    ensures { result.now ≡ comma_before place ++ codes "x" }
+{
+    if place > 0 { b",x" } else { b"x" }
 }
 
 /// What stands before the atom of the literal at this place of a list.
@@ -49,8 +52,7 @@ fn write_literal_at<S: Sink>(
         (literal_piece (names_of sig.now.bases sig.now.consts) place lit.now)) }
 {
     write(sink, before_atom(place, lit.positive))?;
-    write_term(sink, sig, &lit.atom)?;
-    Ok(())
+    write_term(sink, sig, &lit.atom)
 }
 
 fn write_branch<S: Sink>(sink: &mut S, sig: &Signature, branch: &Lits) -> Result<(), Failed>
@@ -66,24 +68,14 @@ fn write_branch<S: Sink>(sink: &mut S, sig: &Signature, branch: &Lits) -> Result
     Ok(())
 }
 
-fn write_child_text<S: Sink>(sink: &mut S, child: Child) -> Result<(), Failed>
-    ensures took { OnOk result (Took S.tells S.written S.faults sink.old sink.new (child_text child)) }
-    ensures stopped { OnErr result (Stopped S.tells S.written S.faults sink.old sink.new (child_text child)) }
-{
-    match child {
-        Child::Closed => write(sink, b"x")?,
-        Child::Line(k) => write_numbered(sink, b"", k, b"")?,
-    }
-    Ok(())
-}
-
 fn write_child<S: Sink>(sink: &mut S, place: usize, child: Child) -> Result<(), Failed>
     ensures took { OnOk result (Took S.tells S.written S.faults sink.old sink.new (child_piece place child)) }
     ensures stopped { OnErr result (Stopped S.tells S.written S.faults sink.old sink.new (child_piece place child)) }
 {
-    write_comma(sink, place)?;
-    write_child_text(sink, child)?;
-    Ok(())
+    match child {
+        Child::Closed => write(sink, closed_child(place)),
+        Child::Line(k) => write_numbered(sink, comma(place), k, b""),
+    }
 }
 
 fn write_children<S: Sink>(sink: &mut S, children: &Children) -> Result<(), Failed>
@@ -108,11 +100,8 @@ fn write_row<S: Sink>(
     ensures stopped { OnErr result (Stopped S.tells S.written S.faults sink.old sink.new
         (row_line (names_of sig.now.bases sig.now.consts) number row.now)) }
 {
-    write_numbered(sink, b"w", number, b"")?;
-    write(sink, b" ")?;
-    write_term(sink, sig, &row.predicate)?;
-    write(sink, b"\n")?;
-    Ok(())
+    write_numbered(sink, b"w", number, b" ")?;
+    write_term_between(sink, sig, b"", &row.predicate, b"\n")
 }
 
 /// Writes what follows the rule of a line.
@@ -127,8 +116,7 @@ fn write_line_end<S: Sink>(sink: &mut S, sig: &Signature, line: &Line) -> Result
     write_branch(sink, sig, &line.branch)?;
     write(sink, b"] [")?;
     write_children(sink, &line.children)?;
-    write(sink, b"]\n")?;
-    Ok(())
+    write(sink, b"]\n")
 }
 
 fn write_line<S: Sink>(
@@ -143,11 +131,9 @@ fn write_line<S: Sink>(
     ensures stopped { OnErr result (Stopped S.tells S.written S.faults sink.old sink.new
         (line_line (names_of sig.now.bases sig.now.consts) number line.now)) }
 {
-    write_numbered(sink, b"", number, b"")?;
-    write(sink, b": ")?;
+    write_numbered(sink, b"", number, b": ")?;
     write_rule(sink, sig, &line.rule)?;
-    write_line_end(sink, sig, line)?;
-    Ok(())
+    write_line_end(sink, sig, line)
 }
 
 pub(crate) fn write_rows<S: Sink>(sink: &mut S, sig: &Signature, rows: &Rows) -> Result<(), Failed>

@@ -1,33 +1,15 @@
-//! Writes literals and rules.
+//! Writes rules.
 
 ghost use Rattle.std.specs.Prelude.{◌≡◌, ◌++◌, codes, decimal, OnOk, OnErr};
 ghost use Rattle.refute_print.specs.Text.{term_text, sign_text, literal_text, rule_text};
 ghost use Rattle.refute_print.specs.Named.{names_of, named_term, named_literal, named_rule, HasNames, HasRuleNames};
 ghost use Rattle.outside.specs.Writing.{Took, Stopped};
 
-use crate::write_bytes::{write, write_numbered};
-use crate::write_term::write_term;
+use crate::write_bytes::write_numbered;
+use crate::write_term::write_term_between;
 use outside::{Failed, Sink};
 use stt_core::{Nf, Signature};
 use tableau_calculus::{Lit, RuleUse};
-
-fn sign(positive: bool) -> &'static [u8]
-    ensures { result.now ≡ sign_text positive }
-{
-    if positive { b"+" } else { b"-" }
-}
-
-pub(crate) fn write_literal<S: Sink>(sink: &mut S, sig: &Signature, lit: &Lit) -> Result<(), Failed>
-    requires { HasNames (names_of sig.now.bases sig.now.consts) lit.now.atom }
-    ensures took { OnOk result (Took S.tells S.written S.faults sink.old sink.new
-        (literal_text (named_literal (names_of sig.now.bases sig.now.consts) lit.now))) }
-    ensures stopped { OnErr result (Stopped S.tells S.written S.faults sink.old sink.new
-        (literal_text (named_literal (names_of sig.now.bases sig.now.consts) lit.now))) }
-{
-    write(sink, sign(lit.positive))?;
-    write_term(sink, sig, &lit.atom)?;
-    Ok(())
-}
 
 /// Writes a rule with two places.
 fn write_two_places<S: Sink>(
@@ -41,9 +23,8 @@ fn write_two_places<S: Sink>(
     ensures stopped { OnErr result (Stopped S.tells S.written S.faults sink.old sink.new
         (rule.now ++ (decimal first ++ (codes "," ++ (decimal second ++ codes ")"))))) }
 {
-    write_numbered(sink, rule, first, b"")?;
-    write_numbered(sink, b",", second, b")")?;
-    Ok(())
+    write_numbered(sink, rule, first, b",")?;
+    write_numbered(sink, b"", second, b")")
 }
 
 /// Writes the rule of a place and a term for its instance.
@@ -59,30 +40,15 @@ fn write_instance<S: Sink>(
     ensures stopped { OnErr result (Stopped S.tells S.written S.faults sink.old sink.new
         (codes "All+(" ++ (decimal place ++ (codes ";" ++ (term_text (named_term (names_of sig.now.bases sig.now.consts) term.now) ++ codes ")"))))) }
 {
-    write_numbered(sink, b"All+(", place, b"")?;
-    write(sink, b";")?;
-    write_term(sink, sig, term)?;
-    write(sink, b")")?;
-    Ok(())
+    write_numbered(sink, b"All+(", place, b";")?;
+    write_term_between(sink, sig, b"", term, b")")
 }
 
-/// Writes a rule that takes a predicate.
-fn write_predicate<S: Sink>(
-    sink: &mut S,
-    sig: &Signature,
-    rule: &[u8],
-    predicate: &Nf,
-) -> Result<(), Failed>
-    requires { HasNames (names_of sig.now.bases sig.now.consts) predicate.now }
-    ensures took { OnOk result (Took S.tells S.written S.faults sink.old sink.new
-        (rule.now ++ (term_text (named_term (names_of sig.now.bases sig.now.consts) predicate.now) ++ codes ")"))) }
-    ensures stopped { OnErr result (Stopped S.tells S.written S.faults sink.old sink.new
-        (rule.now ++ (term_text (named_term (names_of sig.now.bases sig.now.consts) predicate.now) ++ codes ")"))) }
+/// What stands before the formula of a cut's literal.
+fn cut_sign(positive: bool) -> &'static [u8]
+    ensures { result.now ≡ codes "Cut(" ++ sign_text positive }
 {
-    write(sink, rule)?;
-    write_term(sink, sig, predicate)?;
-    write(sink, b")")?;
-    Ok(())
+    if positive { b"Cut(+" } else { b"Cut(-" }
 }
 
 fn write_cut<S: Sink>(sink: &mut S, sig: &Signature, lit: &Lit) -> Result<(), Failed>
@@ -92,10 +58,7 @@ fn write_cut<S: Sink>(sink: &mut S, sig: &Signature, lit: &Lit) -> Result<(), Fa
     ensures stopped { OnErr result (Stopped S.tells S.written S.faults sink.old sink.new
         (codes "Cut(" ++ (literal_text (named_literal (names_of sig.now.bases sig.now.consts) lit.now) ++ codes ")"))) }
 {
-    write(sink, b"Cut(")?;
-    write_literal(sink, sig, lit)?;
-    write(sink, b")")?;
-    Ok(())
+    write_term_between(sink, sig, cut_sign(lit.positive), &lit.atom, b")")
 }
 
 /// Writes a rule.
@@ -125,8 +88,8 @@ pub(crate) fn write_rule<S: Sink>(
         RuleUse::Mat(i, j) => write_two_places(sink, b"Mat(", *i, *j),
         RuleUse::Dec(i) => write_numbered(sink, b"Dec(", *i, b")"),
         RuleUse::Con(i, j) => write_two_places(sink, b"Con(", *i, *j),
-        RuleUse::Cho(predicate) => write_predicate(sink, sig, b"Cho(", predicate),
-        RuleUse::Des(predicate) => write_predicate(sink, sig, b"Des(", predicate),
+        RuleUse::Cho(predicate) => write_term_between(sink, sig, b"Cho(", predicate, b")"),
+        RuleUse::Des(predicate) => write_term_between(sink, sig, b"Des(", predicate, b")"),
         RuleUse::Cut(lit) => write_cut(sink, sig, lit),
     }
 }

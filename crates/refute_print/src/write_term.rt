@@ -68,8 +68,7 @@ fn write_around_type<S: Sink>(
 {
     write(sink, before)?;
     write_type(sink, sig, ty)?;
-    write(sink, after)?;
-    Ok(())
+    write(sink, after)
 }
 
 /// Writes the head of a term.
@@ -103,14 +102,13 @@ fn write_opened_head<S: Sink>(sink: &mut S, sig: &Signature, head: &Head) -> Res
         (codes "(" ++ term_text (named_term (names_of sig.now.bases sig.now.consts) (the_head head.now)))) }
 {
     match head {
-        Head::Not => write(sink, b"($not")?,
-        Head::Imp => write(sink, b"($imp")?,
+        Head::Not => write(sink, b"($not"),
+        Head::Imp => write(sink, b"($imp"),
         _ => {
             write(sink, b"(")?;
-            write_head(sink, sig, head)?;
+            write_head(sink, sig, head)
         }
     }
-    Ok(())
 }
 
 /// Writes a space, a parenthesis and a head, in one piece where the head is a connective.
@@ -122,14 +120,13 @@ fn write_spaced_head<S: Sink>(sink: &mut S, sig: &Signature, head: &Head) -> Res
         (codes " (" ++ term_text (named_term (names_of sig.now.bases sig.now.consts) (the_head head.now)))) }
 {
     match head {
-        Head::Not => write(sink, b" ($not")?,
-        Head::Imp => write(sink, b" ($imp")?,
+        Head::Not => write(sink, b" ($not"),
+        Head::Imp => write(sink, b" ($imp"),
         _ => {
             write(sink, b" (")?;
-            write_head(sink, sig, head)?;
+            write_head(sink, sig, head)
         }
     }
-    Ok(())
 }
 
 fn write_binders<S: Sink>(sink: &mut S, sig: &Signature, binders: &Types) -> Result<(), Failed>
@@ -172,12 +169,11 @@ fn write_argument<S: Sink>(sink: &mut S, sig: &Signature, arg: &Nf) -> Result<()
     if arg.binders.len() == 0 && arg.args.len() > 0 {
         write_spaced_head(sink, sig, &arg.head)?;
         write_arguments(sink, sig, &arg.args)?;
-        write(sink, b")")?;
+        write(sink, b")")
     } else {
         write(sink, b" ")?;
-        write_term(sink, sig, arg)?;
+        write_term(sink, sig, arg)
     }
-    Ok(())
 }
 
 /// Writes a head with its arguments.
@@ -196,13 +192,12 @@ fn write_applied<S: Sink>(
         (applied_text (names_of sig.now.bases sig.now.consts) (the_head head.now) args.now)) }
 {
     if args.len() == 0 {
-        write_head(sink, sig, head)?;
+        write_head(sink, sig, head)
     } else {
         write_opened_head(sink, sig, head)?;
         write_arguments(sink, sig, args)?;
-        write(sink, b")")?;
+        write(sink, b")")
     }
-    Ok(())
 }
 
 /// Writes a canonical term.
@@ -215,6 +210,24 @@ pub(crate) fn write_term<S: Sink>(sink: &mut S, sig: &Signature, nf: &Nf) -> Res
         (term_text (named_term (names_of sig.now.bases sig.now.consts) nf.now))) }
 {
     write_binders(sink, sig, &nf.binders)?;
-    write_applied(sink, sig, &nf.head, &nf.args)?;
-    Ok(())
+    write_applied(sink, sig, &nf.head, &nf.args)
+}
+
+/// Writes a term between two texts.
+pub(crate) fn write_term_between<S: Sink>(
+    sink: &mut S,
+    sig: &Signature,
+    before: &[u8],
+    term: &Nf,
+    after: &[u8],
+) -> Result<(), Failed>
+    requires { HasNames (names_of sig.now.bases sig.now.consts) term.now }
+    ensures took { OnOk result (Took S.tells S.written S.faults sink.old sink.new
+        (before.now ++ (term_text (named_term (names_of sig.now.bases sig.now.consts) term.now) ++ after.now))) }
+    ensures stopped { OnErr result (Stopped S.tells S.written S.faults sink.old sink.new
+        (before.now ++ (term_text (named_term (names_of sig.now.bases sig.now.consts) term.now) ++ after.now))) }
+{
+    write(sink, before)?;
+    write_term(sink, sig, term)?;
+    write(sink, after)
 }

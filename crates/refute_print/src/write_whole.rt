@@ -38,8 +38,7 @@ fn write_constant<S: Sink>(sink: &mut S, sig: &Signature, place: u32) -> Result<
     ensures stopped { OnErr result (Stopped S.tells S.written S.faults sink.old sink.new
         (name_text (name_numbered (names_of sig.now.bases sig.now.consts).constants place))) }
 {
-    write_name(sink, sig.consts.name_at(place as usize))?;
-    Ok(())
+    write_name(sink, sig.consts.name_at(place as usize))
 }
 
 /// Writes the line of a constant whose definition is unfolded.
@@ -52,8 +51,7 @@ fn write_definition<S: Sink>(sink: &mut S, sig: &Signature, place: u32) -> Resul
 {
     write(sink, b"d ")?;
     write_constant(sink, sig, place)?;
-    write(sink, b"\n")?;
-    Ok(())
+    write(sink, b"\n")
 }
 
 fn write_definitions<S: Sink>(sink: &mut S, sig: &Signature, taken: &[u32]) -> Result<(), Failed>
@@ -85,8 +83,7 @@ fn write_lines_of<S: Sink>(
     write_version(sink, sig, taken)?;
     write_definitions(sink, sig, taken)?;
     write_rows(sink, sig, &refutation.witnesses)?;
-    write_lines(sink, sig, &refutation.lines)?;
-    Ok(())
+    write_lines(sink, sig, &refutation.lines)
 }
 
 /// Writes the lines between the start line and the end line, each with its line feed: a text of version 2 with the names of the taken

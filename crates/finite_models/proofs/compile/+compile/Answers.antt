@@ -1,4 +1,5 @@
-use Rattle.std.proofs.Common.{◌≡◌, ◌-◌, ◌^◌, ◌<◌, ◌≤◌, ◌∷◌, drop, option_map, ap, ap₂, sym, subst, ◌∙◌, refl, arith, nat_eq, if◌then◌else◌}
+use Rattle.std.proofs.lemmas.Result.{IfOk-weaker}
+use Rattle.std.proofs.Common.{length, ◌≡◌, ◌-◌, ◌^◌, ◌<◌, ◌≤◌, ◌∷◌, drop, option_map, ap, ap₂, sym, subst, ◌∙◌, refl, arith, nat_eq, if◌then◌else◌}
 use Rattle.stt_core.specs.SimpleType.{arrow}
 use Rattle.stt_core.specs.Lambda.{bound, name, choice, description, applied, lambdas, constant}
 use Rattle.stt_core.specs.Internal.Sizes.{node_counts}
@@ -117,7 +118,9 @@ compile_truth-returns t c =
     let ys = c.args.frame.now.choosers.now in
     let ctx = the_context c.args.ctx.now in
     let i = c.nf.inside in
-    truth_whole scope s ys c.requires.ground ctx i.binders (applied (the_head i.head) i.args) c.args.nf.now c.in_ok-compile_spine.field-0 c.nf.view_is c.requires.term c.in_ok-compile_spine.ensures
+    IfOk-weaker c.compile_spine.result _ _
+    (λ e h. truth_whole scope s ys c.requires.ground ctx i.binders (applied (the_head i.head) i.args) c.args.nf.now e c.nf.view_is c.requires.term h)
+    c.compile_spine.ensures
 
 pub compile_negation-at-first-requires : goal.compile_negation-at-first-requires
 compile_negation-at-first-requires t c =
@@ -408,7 +411,10 @@ compile_under-returns-then-i-len t c =
     let ys = c.args.frame.now.choosers.now in
     let ctx = the_context c.args.ctx.now in
     let inside = applied (the_head c.args.head.now) c.args.args.now in
-    spine_whole scope s ys c.requires.ground ctx c.args.binders.now c.args.i inside c.in_ok-compile_spine.field-0 (omega arith) c.in_ok-compile_spine.ensures
+    let past : length c.args.binders.now ≤ c.args.i = omega arith in
+    IfOk-weaker c.compile_spine.result _ _
+    (λ e h. spine_whole scope s ys c.requires.ground ctx c.args.binders.now c.args.i inside e past h)
+    c.compile_spine.ensures
 
 pub compile_under-compile_under-requires : goal.compile_under-compile_under-requires
 compile_under-compile_under-requires t c =
@@ -485,7 +491,23 @@ compile_under-returns t c =
     let n = c.size_of-entries.ensures.size in
     let u = under scope s ys c.requires.ground ctx (the_type c.in-Arrow._argument.value) (the_type c.deref-to.result.now) (the_type c.at-a.result.now) c.args.binders.now c.args.i inside c.at-a.ensures can in
     let rest = c.in_ok-rest-in-Arrow.rest in
-    let whole = c.in_ok-table_of-in-Arrow.ensures in
-    function_stands scope s ys c.requires.ground ctx (the_type c.in-Arrow._argument.value) (the_type c.deref-to.result.now) (the_type c.at-a.result.now) c.args.binders.now c.args.i inside rest _ c.at-a.ensures can c.in_ok-rest-in-Arrow.ensures
+    IfOk-weaker c.table_of.result _ _
+    (λ e whole. function_stands scope s ys c.requires.ground ctx (the_type c.in-Arrow._argument.value) (the_type c.deref-to.result.now) (the_type c.at-a.result.now) c.args.binders.now c.args.i inside rest e c.at-a.ensures can c.in_ok-rest-in-Arrow.ensures
     (λ vs env. whole.is vs env ∙ ap₂ (λ x y. table x y (λ z. worth rest vs (z ∷ env))) b n)
-    (λ vs env h. whole.safe vs env (λ x l. let k = h x (subst (λ y. x < y) n l) in (k.0, subst (λ y. worth rest vs (x ∷ env) < y) (sym b) k.1)))
+    (λ vs env h. whole.safe vs env (λ x l. let k = h x (subst (λ y. x < y) n l) in (k.0, subst (λ y. worth rest vs (x ∷ env) < y) (sym b) k.1))))
+    c.table_of.ensures
+
+pub compile_spine-returns-in-Not : goal.compile_spine-returns-in-Not
+compile_spine-returns-in-Not t c = rw (c.in-Not.is) c.compile_negation.ensures
+
+pub compile_spine-returns-in-Imp : goal.compile_spine-returns-in-Imp
+compile_spine-returns-in-Imp t c = rw (c.in-Imp.is) c.compile_implication.ensures
+
+pub compile_spine-returns-in-Eq : goal.compile_spine-returns-in-Eq
+compile_spine-returns-in-Eq t c = rw (c.in-Eq.is) c.compile_equation.ensures
+
+pub compile_spine-returns-in-All : goal.compile_spine-returns-in-All
+compile_spine-returns-in-All t c = rw (c.in-All.is) c.compile_every.ensures
+
+pub compile-returns : goal.compile-returns
+compile-returns t c = rw (← c.nf.view_is) c.compile_under.ensures

@@ -1,4 +1,5 @@
 use Rattle.std.proofs.Common.{[], ◌∙◌}
+use Rattle.std.proofs.lemmas.Result.{IfOk-weaker}
 use Rattle.stt_core.specs.View.{the_term}
 use Rattle.normal_forms.specs.Normal.{normal_form}
 use Rattle.term_bank.specs.Content.{content_scope}
@@ -11,4 +12,4 @@ tree_of-requires c =
 
 pub returns-clause-form : goal.returns-clause-form
 returns-clause-form c =
-    c.in_ok-tree_of.ensures ∙ has_at c.normalise.new.bank c.in_ok-id.id (normal_form (content_scope c.args.bank.now) [] (the_term c.args.formula.now)) c.in_ok-id.ensures.term
+    IfOk-weaker c.tree_of.result _ _ (λ nf h. h ∙ has_at c.normalise.new.bank c.in_ok-id.id (normal_form (content_scope c.args.bank.now) [] (the_term c.args.formula.now)) c.in_ok-id.ensures.term) c.tree_of.ensures

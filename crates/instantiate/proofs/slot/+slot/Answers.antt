@@ -1,3 +1,4 @@
+use Rattle.std.proofs.lemmas.Result.{IfOk-weaker}
 use Rattle.std.proofs.Common.{ap, sym, ◌∙◌, option_map, arith}
 use Rattle.stt_core.specs.View.{the_head}
 use Rattle.stt_core.specs.ContextView.{the_context}
@@ -20,7 +21,9 @@ slot_among-loop-i-preserved t c =
     first_among-later (slot_of (content_scope c.args.bank.now) (the_head c.args.head.now)) (the_context c.args.ctx.now) c.args.partials.now c.loop-i.i c.at.result.now c.at.ensures (ap (option_map the_slot) (sym c.in-None.is) ∙ c.in_ok-slot.ensures)
     ∙ c.loop-i.invariant
 
-pub slot_in-returns-in_ok-slot_among-in-App : goal.slot_in-returns-in_ok-slot_among-in-App
-slot_in-returns-in_ok-slot_among-in-App t c =
-    slots-spine (slot_of (content_scope c.args.bank.now) (the_head c.args.head.now)) (the_context c.args.ctx.now) (the_head c.in-App.field-0) c.in-App.args c.args.partial.now (option_map the_slot c.in_ok-slot_among-in-App.field-0)
-    (ap the_partial_node (sym c.in-App.is) ∙ c.partial.view_is) c.in_ok-slot_among-in-App.ensures
+pub slot_in-returns-in-App : goal.slot_in-returns-in-App
+slot_in-returns-in-App t c =
+    IfOk-weaker c.slot_among.result _ _
+    (λ o h. slots-spine (slot_of (content_scope c.args.bank.now) (the_head c.args.head.now)) (the_context c.args.ctx.now) (the_head c.in-App.field-0) c.in-App.args c.args.partial.now (option_map the_slot o)
+    (ap the_partial_node (sym c.in-App.is) ∙ c.partial.view_is) h)
+    c.slot_among.ensures

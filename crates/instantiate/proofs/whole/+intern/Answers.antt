@@ -1,3 +1,4 @@
+use Rattle.std.proofs.lemmas.Result.{IfOk-weaker}
 use Rattle.std.proofs.Common.{map, ap, sym, subst, ◌∙◌, ◌≡◌, arith}
 use Rattle.stt_core.specs.View.{the_type, the_head}
 use Rattle.stt_core.specs.Lambda.{Lambda, lam}
@@ -37,12 +38,13 @@ intern-intern_lam-requires-clause-typed t c =
     let it : function a p ≡ c.args.partial.now = ap (function a) c.deref.ensures ∙ ap the_partial_node (sym c.in-Lam.is) ∙ c.partial.view_is in
     lam_ready c.args.bank.now c.intern.new.bank a p c.in_ok-body-in-Lam.body (term_of c.args.partial.now) c.in_ok-body-in-Lam.ensures.grows (ap term_of (sym it)) c.requires.typed c.in_ok-body-in-Lam.ensures.term
 
-pub intern-returns-in_ok-intern_lam-in-Lam-clause-term : goal.intern-returns-in_ok-intern_lam-in-Lam-clause-term
-intern-returns-in_ok-intern_lam-in-Lam-clause-term t c =
+pub intern-returns-in_ok-body-in-Lam-clause-term : goal.intern-returns-in_ok-body-in-Lam-clause-term
+intern-returns-in_ok-body-in-Lam-clause-term t c =
     let a = the_type c.in-Lam.ty in
     let p = c.deref.result.now in
     let it : function a p ≡ c.args.partial.now = ap (function a) c.deref.ensures ∙ ap the_partial_node (sym c.in-Lam.is) ∙ c.partial.view_is in
-    subst (HasTerm c.intern_lam.new.self c.in_ok-intern_lam-in-Lam.field-0) (ap (lam a) (has_at c.intern.new.bank c.in_ok-body-in-Lam.body (term_of p) c.in_ok-body-in-Lam.ensures.term) ∙ ap term_of it) c.in_ok-intern_lam-in-Lam.ensures.term
+    let same = ap (lam a) (has_at c.intern.new.bank c.in_ok-body-in-Lam.body (term_of p) c.in_ok-body-in-Lam.ensures.term) ∙ ap term_of it in
+    IfOk-weaker c.intern_lam.result _ _ (λ id h. subst (HasTerm c.intern_lam.new.self id) same h) c.intern_lam.ensures.term
 
 -- A HEAD WITH ITS ARGUMENTS
 
@@ -63,14 +65,13 @@ intern-intern_app-requires-clause-typed t c =
     let it : applications (the_leaf h) qs ≡ c.args.partial.now = ap the_partial_node (sym c.in-App.is) ∙ c.partial.view_is in
     app_ready c.args.bank.now c.intern_all.new.bank h qs c.in_ok-args-in-App.args c.as_slice.result.now (term_of c.args.partial.now) c.in_ok-args-in-App.ensures.grows (ap term_of (sym it) ∙ term_of-spine h qs) c.requires.typed c.in_ok-args-in-App.ensures.terms c.as_slice.ensures
 
-pub intern-returns-in_ok-intern_app-in-App-clause-term : goal.intern-returns-in_ok-intern_app-in-App-clause-term
-intern-returns-in_ok-intern_app-in-App-clause-term t c =
+pub intern-returns-in_ok-args-in-App-clause-term : goal.intern-returns-in_ok-args-in-App-clause-term
+intern-returns-in_ok-args-in-App-clause-term t c =
     let h = the_head c.in-App.head in
     let qs = c.in-App.args in
     let it : applications (the_leaf h) qs ≡ c.args.partial.now = ap the_partial_node (sym c.in-App.is) ∙ c.partial.view_is in
-    subst (HasTerm c.intern_app.new.self c.in_ok-intern_app-in-App.field-0)
-    (spine_same c.intern_all.new.bank h c.in_ok-args-in-App.args c.as_slice.result.now (map term_of qs) c.in_ok-args-in-App.ensures.terms c.as_slice.ensures ∙ sym (term_of-spine h qs) ∙ ap term_of it)
-    c.in_ok-intern_app-in-App.ensures.term
+    let same = spine_same c.intern_all.new.bank h c.in_ok-args-in-App.args c.as_slice.result.now (map term_of qs) c.in_ok-args-in-App.ensures.terms c.as_slice.ensures ∙ sym (term_of-spine h qs) ∙ ap term_of it in
+    IfOk-weaker c.intern_app.result _ _ (λ id h. subst (HasTerm c.intern_app.new.self id) same h) c.intern_app.ensures.term
 
 -- ALL ARGUMENTS
 

@@ -1,4 +1,5 @@
-use Rattle.outside.proofs.Writes.{on_err, took_both, stopped_first, stopped_later}
+use Rattle.outside.proofs.Writes.{on_err, stopped_first, stopped_later}
+use Rattle.refute_print.proofs.Writes.{took_after, stopped_after}
 use Rattle.refute_print.proofs.write_line.write_line_end.Goals as goal
 
 pub returns-in_err-write-clause-stopped : goal.returns-in_err-write-clause-stopped
@@ -21,11 +22,12 @@ returns-in_err-write_children-clause-stopped g c =
     on_err c.from_residual-in_err-write_children.result
     (stopped_later _ _ c.in_ok-write.ensures.took (stopped_later _ _ c.in_ok-write_branch.ensures.took (stopped_later _ _ c.in_ok-write-2.ensures.took (stopped_first _ _ c.in_err-write_children.ensures.stopped))))
 
-pub returns-in_err-write-3-clause-stopped : goal.returns-in_err-write-3-clause-stopped
-returns-in_err-write-3-clause-stopped g c =
-    on_err c.from_residual-in_err-write-3.result
-    (stopped_later _ _ c.in_ok-write.ensures.took (stopped_later _ _ c.in_ok-write_branch.ensures.took (stopped_later _ _ c.in_ok-write-2.ensures.took (stopped_later _ _ c.in_ok-write_children.ensures.took c.in_err-write-3.ensures.stopped))))
-
 pub returns-clause-took : goal.returns-clause-took
 returns-clause-took g c =
-    took_both _ _ c.in_ok-write.ensures.took (took_both _ _ c.in_ok-write_branch.ensures.took (took_both _ _ c.in_ok-write-2.ensures.took (took_both _ _ c.in_ok-write_children.ensures.took c.in_ok-write-3.ensures.took)))
+    let r = c.write-3.result in
+    took_after _ _ _ _ _ r _ _ c.in_ok-write.ensures.took (took_after _ _ _ _ _ r _ _ c.in_ok-write_branch.ensures.took (took_after _ _ _ _ _ r _ _ c.in_ok-write-2.ensures.took (took_after _ _ _ _ _ r _ _ c.in_ok-write_children.ensures.took c.write-3.ensures.took)))
+
+pub returns-clause-stopped : goal.returns-clause-stopped
+returns-clause-stopped g c =
+    let r = c.write-3.result in
+    stopped_after _ _ _ _ _ r _ _ c.in_ok-write.ensures.took (stopped_after _ _ _ _ _ r _ _ c.in_ok-write_branch.ensures.took (stopped_after _ _ _ _ _ r _ _ c.in_ok-write-2.ensures.took (stopped_after _ _ _ _ _ r _ _ c.in_ok-write_children.ensures.took c.write-3.ensures.stopped)))

@@ -1,21 +1,14 @@
-use Rattle.outside.proofs.Writes.{on_err, took_both, stopped_first, stopped_later}
+use Rattle.std.proofs.Common.{ap, ◌∙◌, ◌++◌, codes}
+use Rattle.refute_print.specs.Text.{term_text, literal_text}
+use Rattle.refute_print.specs.Named.{names_of, named_term, named_literal}
+use Rattle.refute_print.proofs.Writes.{took_same, stopped_same}
+use Rattle.refute_print.proofs.LineTexts.{cut_text}
 use Rattle.refute_print.proofs.write_rule.write_cut.Goals as goal
-
-pub returns-in_err-write-clause-stopped : goal.returns-in_err-write-clause-stopped
-returns-in_err-write-clause-stopped g c =
-    on_err c.from_residual.result
-    (stopped_first _ _ c.in_err-write.ensures.stopped)
-
-pub returns-in_err-write_literal-clause-stopped : goal.returns-in_err-write_literal-clause-stopped
-returns-in_err-write_literal-clause-stopped g c =
-    on_err c.from_residual-in_err-write_literal.result
-    (stopped_later _ _ c.in_ok-write.ensures.took (stopped_first _ _ c.in_err-write_literal.ensures.stopped))
-
-pub returns-in_err-write-2-clause-stopped : goal.returns-in_err-write-2-clause-stopped
-returns-in_err-write-2-clause-stopped g c =
-    on_err c.from_residual-in_err-write-2.result
-    (stopped_later _ _ c.in_ok-write.ensures.took (stopped_later _ _ c.in_ok-write_literal.ensures.took c.in_err-write-2.ensures.stopped))
 
 pub returns-clause-took : goal.returns-clause-took
 returns-clause-took g c =
-    took_both _ _ c.in_ok-write.ensures.took (took_both _ _ c.in_ok-write_literal.ensures.took c.in_ok-write-2.ensures.took)
+    took_same _ _ _ _ _ c.write_term_between.result _ _ (ap (λ x. x ++ (term_text (named_term (names_of c.args.sig.now.bases c.args.sig.now.consts) c.lit.inside.atom) ++ codes ")")) c.cut_sign.ensures ∙ cut_text (names_of c.args.sig.now.bases c.args.sig.now.consts) c.lit.inside.positive c.lit.inside.atom ∙ ap (λ l. codes "Cut(" ++ (literal_text (named_literal (names_of c.args.sig.now.bases c.args.sig.now.consts) l) ++ codes ")")) c.lit.view_is) c.write_term_between.ensures.took
+
+pub returns-clause-stopped : goal.returns-clause-stopped
+returns-clause-stopped g c =
+    stopped_same _ _ _ _ _ c.write_term_between.result _ _ (ap (λ x. x ++ (term_text (named_term (names_of c.args.sig.now.bases c.args.sig.now.consts) c.lit.inside.atom) ++ codes ")")) c.cut_sign.ensures ∙ cut_text (names_of c.args.sig.now.bases c.args.sig.now.consts) c.lit.inside.positive c.lit.inside.atom ∙ ap (λ l. codes "Cut(" ++ (literal_text (named_literal (names_of c.args.sig.now.bases c.args.sig.now.consts) l) ++ codes ")")) c.lit.view_is) c.write_term_between.ensures.stopped

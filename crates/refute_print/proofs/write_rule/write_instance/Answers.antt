@@ -1,41 +1,22 @@
-use Rattle.std.proofs.Common.{subst, ◌++◌, codes, decimal}
+use Rattle.std.proofs.Common.{subst, ap, ◌∙◌, ◌++◌, codes, decimal}
 use Rattle.refute_print.specs.Text.{term_text}
 use Rattle.refute_print.specs.Named.{names_of, named_term}
-use Rattle.outside.specs.Writing.{Took, Stopped}
-use Rattle.outside.proofs.Writes.{on_err, took_both, stopped_first, stopped_later}
-use Rattle.refute_print.proofs.LineTexts.{numbered_then}
+use Rattle.outside.specs.Writing.{Stopped}
+use Rattle.outside.proofs.Writes.{on_err, stopped_first}
+use Rattle.refute_print.proofs.Writes.{took_after, stopped_after, took_same, stopped_same}
+use Rattle.refute_print.proofs.LineTexts.{numbered_before}
 use Rattle.refute_print.proofs.write_rule.write_instance.Goals as goal
 
 pub returns-in_err-write_numbered-clause-stopped : goal.returns-in_err-write_numbered-clause-stopped
 returns-in_err-write_numbered-clause-stopped g c =
-    let names = names_of c.args.sig.now.bases c.args.sig.now.consts in
     on_err c.from_residual.result
-    (subst (λ x. Stopped g.S.Sink.tells g.S.Sink.written g.S.Sink.faults c.args.sink.now c.write_numbered.new.sink x) (numbered_then (codes "All+(") (decimal c.args.place) (codes ";" ++ (term_text (named_term names c.args.term.now) ++ codes ")")))
+    (subst (λ x. Stopped g.S.Sink.tells g.S.Sink.written g.S.Sink.faults c.args.sink.now c.write_numbered.new.sink x) (numbered_before (codes "All+(") (decimal c.args.place) (codes ";") (term_text (named_term (names_of c.args.sig.now.bases c.args.sig.now.consts) c.args.term.now) ++ codes ")"))
     (stopped_first _ _ c.in_err-write_numbered.ensures.stopped))
-
-pub returns-in_err-write-clause-stopped : goal.returns-in_err-write-clause-stopped
-returns-in_err-write-clause-stopped g c =
-    let names = names_of c.args.sig.now.bases c.args.sig.now.consts in
-    on_err c.from_residual-in_err-write.result
-    (subst (λ x. Stopped g.S.Sink.tells g.S.Sink.written g.S.Sink.faults c.args.sink.now c.write.new.sink x) (numbered_then (codes "All+(") (decimal c.args.place) (codes ";" ++ (term_text (named_term names c.args.term.now) ++ codes ")")))
-    (stopped_later _ _ c.in_ok-write_numbered.ensures.took (stopped_first _ _ c.in_err-write.ensures.stopped)))
-
-pub returns-in_err-write_term-clause-stopped : goal.returns-in_err-write_term-clause-stopped
-returns-in_err-write_term-clause-stopped g c =
-    let names = names_of c.args.sig.now.bases c.args.sig.now.consts in
-    on_err c.from_residual-in_err-write_term.result
-    (subst (λ x. Stopped g.S.Sink.tells g.S.Sink.written g.S.Sink.faults c.args.sink.now c.write_term.new.sink x) (numbered_then (codes "All+(") (decimal c.args.place) (codes ";" ++ (term_text (named_term names c.args.term.now) ++ codes ")")))
-    (stopped_later _ _ c.in_ok-write_numbered.ensures.took (stopped_later _ _ c.in_ok-write.ensures.took (stopped_first _ _ c.in_err-write_term.ensures.stopped))))
-
-pub returns-in_err-write-2-clause-stopped : goal.returns-in_err-write-2-clause-stopped
-returns-in_err-write-2-clause-stopped g c =
-    let names = names_of c.args.sig.now.bases c.args.sig.now.consts in
-    on_err c.from_residual-in_err-write-2.result
-    (subst (λ x. Stopped g.S.Sink.tells g.S.Sink.written g.S.Sink.faults c.args.sink.now c.write-2.new.sink x) (numbered_then (codes "All+(") (decimal c.args.place) (codes ";" ++ (term_text (named_term names c.args.term.now) ++ codes ")")))
-    (stopped_later _ _ c.in_ok-write_numbered.ensures.took (stopped_later _ _ c.in_ok-write.ensures.took (stopped_later _ _ c.in_ok-write_term.ensures.took c.in_err-write-2.ensures.stopped))))
 
 pub returns-clause-took : goal.returns-clause-took
 returns-clause-took g c =
-    let names = names_of c.args.sig.now.bases c.args.sig.now.consts in
-    subst (λ x. Took g.S.Sink.tells g.S.Sink.written g.S.Sink.faults c.args.sink.now c.write-2.new.sink x) (numbered_then (codes "All+(") (decimal c.args.place) (codes ";" ++ (term_text (named_term names c.args.term.now) ++ codes ")")))
-    (took_both _ _ c.in_ok-write_numbered.ensures.took (took_both _ _ c.in_ok-write.ensures.took (took_both _ _ c.in_ok-write_term.ensures.took c.in_ok-write-2.ensures.took)))
+    took_same _ _ _ _ _ c.write_term_between.result _ _ (numbered_before (codes "All+(") (decimal c.args.place) (codes ";") (term_text (named_term (names_of c.args.sig.now.bases c.args.sig.now.consts) c.args.term.now) ++ codes ")")) (took_after _ _ _ _ _ c.write_term_between.result _ _ c.in_ok-write_numbered.ensures.took c.write_term_between.ensures.took)
+
+pub returns-clause-stopped : goal.returns-clause-stopped
+returns-clause-stopped g c =
+    stopped_same _ _ _ _ _ c.write_term_between.result _ _ (numbered_before (codes "All+(") (decimal c.args.place) (codes ";") (term_text (named_term (names_of c.args.sig.now.bases c.args.sig.now.consts) c.args.term.now) ++ codes ")")) (stopped_after _ _ _ _ _ c.write_term_between.result _ _ c.in_ok-write_numbered.ensures.took c.write_term_between.ensures.stopped)

@@ -1,7 +1,8 @@
 use Rattle.std.proofs.Common.{subst}
 use Rattle.refute_print.specs.Named.{names_of, named_refutation}
-use Rattle.outside.specs.Writing.{Took, Stopped}
-use Rattle.outside.proofs.Writes.{on_err, took_both, stopped_first, stopped_later}
+use Rattle.outside.specs.Writing.{Stopped}
+use Rattle.outside.proofs.Writes.{on_err, stopped_first, stopped_later}
+use Rattle.refute_print.proofs.Writes.{took_after, stopped_after, took_same, stopped_same}
 use Rattle.refute_print.proofs.LineTexts.{text_parts}
 use Rattle.refute_print.proofs.write_whole.write_lines_of.Goals as goal
 
@@ -26,15 +27,16 @@ returns-in_err-write_rows-clause-stopped g c =
     (subst (λ x. Stopped g.S.Sink.tells g.S.Sink.written g.S.Sink.faults c.args.sink.now c.write_rows.new.sink x) (text_parts (named_refutation names c.args.taken.now c.args.refutation.now))
     (stopped_later _ _ c.in_ok-write_version.ensures.took (stopped_later _ _ c.in_ok-write_definitions.ensures.took (stopped_first _ _ c.in_err-write_rows.ensures.stopped))))
 
-pub returns-in_err-write_lines-clause-stopped : goal.returns-in_err-write_lines-clause-stopped
-returns-in_err-write_lines-clause-stopped g c =
-    let names = names_of c.args.sig.now.bases c.args.sig.now.consts in
-    on_err c.from_residual-in_err-write_lines.result
-    (subst (λ x. Stopped g.S.Sink.tells g.S.Sink.written g.S.Sink.faults c.args.sink.now c.write_lines.new.sink x) (text_parts (named_refutation names c.args.taken.now c.args.refutation.now))
-    (stopped_later _ _ c.in_ok-write_version.ensures.took (stopped_later _ _ c.in_ok-write_definitions.ensures.took (stopped_later _ _ c.in_ok-write_rows.ensures.took c.in_err-write_lines.ensures.stopped))))
-
 pub returns-clause-took : goal.returns-clause-took
 returns-clause-took g c =
     let names = names_of c.args.sig.now.bases c.args.sig.now.consts in
-    subst (λ x. Took g.S.Sink.tells g.S.Sink.written g.S.Sink.faults c.args.sink.now c.write_lines.new.sink x) (text_parts (named_refutation names c.args.taken.now c.args.refutation.now))
-    (took_both _ _ c.in_ok-write_version.ensures.took (took_both _ _ c.in_ok-write_definitions.ensures.took (took_both _ _ c.in_ok-write_rows.ensures.took c.in_ok-write_lines.ensures.took)))
+    let r = c.write_lines.result in
+    took_same _ _ _ _ _ r _ _ (text_parts (named_refutation names c.args.taken.now c.args.refutation.now))
+    (took_after _ _ _ _ _ r _ _ c.in_ok-write_version.ensures.took (took_after _ _ _ _ _ r _ _ c.in_ok-write_definitions.ensures.took (took_after _ _ _ _ _ r _ _ c.in_ok-write_rows.ensures.took c.write_lines.ensures.took)))
+
+pub returns-clause-stopped : goal.returns-clause-stopped
+returns-clause-stopped g c =
+    let names = names_of c.args.sig.now.bases c.args.sig.now.consts in
+    let r = c.write_lines.result in
+    stopped_same _ _ _ _ _ r _ _ (text_parts (named_refutation names c.args.taken.now c.args.refutation.now))
+    (stopped_after _ _ _ _ _ r _ _ c.in_ok-write_version.ensures.took (stopped_after _ _ _ _ _ r _ _ c.in_ok-write_definitions.ensures.took (stopped_after _ _ _ _ _ r _ _ c.in_ok-write_rows.ensures.took c.write_lines.ensures.stopped)))
