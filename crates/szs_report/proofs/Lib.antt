@@ -1,2 +1,3 @@
+pub mod WriteLaws
 pub mod ReportLaws
 pub mod ModelLaws

@@ -2,19 +2,19 @@
 use Rattle.std.proofs.Common.{◌≡◌, ℕ, List, [], ◌∷◌, ◌++◌, codes, ap, ◌∙◌, append_assoc}
 use Rattle.refute_print.specs.Text.{as_bytes}
 use Rattle.refute_print.proofs.LineTexts.{as_bytes-append}
-use Rattle.szs_report.specs.Report.{headed_report, model_report, line_report, demo_report, refused_report}
+use Rattle.refute_text.specs.Reading.{start_mark, end_mark}
+use Rattle.szs_report.specs.Report.{headed_report, model_report, line_report, demo_report, refused_report, counted_report}
 
-pub proof_head-pieces : (status name count : List ℕ) → as_bytes ((status ++ name) ∷ (codes "% commands " ++ count) ∷ []) ≡ status ++ (name ++ (codes "\n% commands " ++ (count ++ (codes "\n" ++ []))))
-proof_head-pieces status name count = append_assoc status name _
-
-pub parted-pieces : (word what : List ℕ) → as_bytes ((word ++ what) ∷ []) ≡ word ++ (what ++ (codes "\n" ++ []))
-parted-pieces word what = append_assoc word what (codes "\n")
-
-pub proof_start-parts : (first second last : List ℕ) (tree : List (List ℕ)) → as_bytes (first ∷ second ∷ (tree ++ last ∷ [])) ≡ as_bytes (first ∷ second ∷ []) ++ (as_bytes tree ++ as_bytes (last ∷ []))
+proof_start-parts : (first second last : List ℕ) (tree : List (List ℕ)) → as_bytes (first ∷ second ∷ (tree ++ last ∷ [])) ≡ as_bytes (first ∷ second ∷ []) ++ (as_bytes tree ++ as_bytes (last ∷ []))
 proof_start-parts first second last tree =
     as_bytes-append (first ∷ second ∷ []) (tree ++ last ∷ []) ∙ ap (λ x. as_bytes (first ∷ second ∷ []) ++ x) (as_bytes-append tree (last ∷ []))
 
-headed-pieces : (status name word what : List ℕ) → headed_report status name word what ≡ status ++ (name ++ (codes "\n" ++ (word ++ (what ++ codes "\n"))))
+pub proof-pieces : (status name count : List ℕ) (mode tree : List (List ℕ)) (text : List ℕ) →
+    counted_report status name count (mode ++ tree) text ≡ status ++ (name ++ (codes "\n% commands " ++ (count ++ (codes "\n" ++ (as_bytes mode ++ (as_bytes tree ++ (start_mark ++ (name ++ (codes "\n" ++ (text ++ (end_mark ++ (name ++ (codes "\n" ++ [])))))))))))))
+proof-pieces status name count mode tree text =
+    rw (proof_start-parts (status ++ name) (codes "% commands " ++ count) (start_mark ++ name) (mode ++ tree), as_bytes-append mode tree) (simp append_assoc)
+
+pub headed-pieces : (status name word what : List ℕ) → headed_report status name word what ≡ status ++ (name ++ (codes "\n" ++ (word ++ (what ++ codes "\n"))))
 headed-pieces status name word what =
     append_assoc status name (10 ∷ ((word ++ what) ++ codes "\n")) ∙ ap (λ x. status ++ (name ++ (10 ∷ x))) (append_assoc word what (codes "\n"))
 

@@ -10,3 +10,4 @@ pub mod Status
 pub mod Outcomes
 pub mod Report
 pub mod ModelText
+pub mod Internal

@@ -5,6 +5,7 @@ mod answer;
 mod causes;
 mod model_lines;
 mod outcome;
+mod piece;
 mod proof_text;
 mod report;
 

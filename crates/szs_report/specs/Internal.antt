@@ -1,0 +1,2 @@
+-- Means of proof: what private contracts and proofs speak of.
+pub mod Pieces
