@@ -34,13 +34,7 @@ fn even_until(defaults: u32, over: Over, count: usize) -> usize
         Over::Universals => count,
         Over::Negatives => count,
         Over::Positives => count,
-        Over::Heads { witnesses: _ } => {
-            if count > 2 {
-                count - 1
-            } else {
-                1
-            }
-        }
+        Over::Heads { witnesses: _ } => { if count > 2 { count - 1 } else { 1 } }
         Over::Parked => count,
     }
 }
