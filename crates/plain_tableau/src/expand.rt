@@ -1,5 +1,5 @@
 //! Trees without cut.
-ghost use Rattle.std.specs.Prelude.{◌≡◌, ◌<◌, ◌≤◌, ◌++◌, [], length, Some, None, IfOk, All};
+ghost use Rattle.std.specs.Prelude.{◌≡◌, ◌<◌, ◌≤◌, ◌++◌, [], length, reverse, Some, None, IfOk, All};
 ghost use Rattle.sat_base.specs.Literal.{IsOver};
 ghost use Rattle.tableau_calculus.specs.Witnesses.{with_rows};
 ghost use Rattle.tableau_calculus.specs.Accepted.{IsAccepted};
@@ -17,6 +17,8 @@ ghost use Rattle.plain_tableau.specs.Expansion.{first_clash};
 ghost use Rattle.tableau_calculus.specs.CutFree.{HasNoCut};
 ghost use Rattle.plain_tableau.specs.Tables.{the_used, start_branch, IsUsable, IsStripped, OfTree, IsWithinLimit};
 ghost use Rattle.plain_tableau.specs.Internal.Due.{IsPath};
+ghost use Rattle.plain_tableau.specs.Internal.Walking.{IsAhead};
+ghost use Rattle.plain_tableau.specs.Internal.Writing.{IsWriting};
 
 use crate::law::tree_is_accepted;
 use crate::path::Path;
@@ -101,6 +103,44 @@ fn at_once(
     })
 }
 
+/// What a walk at an open start comes to.
+fn walked(
+    alloc: Global,
+    bank: &Bank,
+    atoms: &LitTable,
+    steps: &StepTable,
+    witnesses: &Witnesses,
+    used: &[usize],
+    nodes: u32,
+    start: &[SatLit],
+    mut walk: Walk,
+) -> Result<Stripped, AllocError>
+    requires rows { AreRows bank.now witnesses.now }
+    requires atoms { All (IsAtom bank.now) atoms.now }
+    requires used { All (IsUsable bank.now atoms.now (rows_of bank.now.terms witnesses.now) steps.now) used.now }
+    requires path { IsPath (length atoms.now) steps.now used.now walk.path }
+    requires writing { IsWriting bank.now atoms.now witnesses.now walk.writing }
+    requires ahead { IsAhead (the_used bank.now.terms atoms.now steps.now used.now) nodes start.now (atoms_at bank.now.terms atoms.now) 0 (reverse walk.frames.items) walk.path.literals.keys walk.writing.lines }
+    requires open { first_clash numbers start.now ≡ None }
+    ensures exactly { IfOk result (IsStripped (atoms_at bank.now.terms atoms.now) (rows_of bank.now.terms witnesses.now) (the_used bank.now.terms atoms.now steps.now used.now) nodes start.now) }
+    ensures in_range { IfOk result (OfTree AreNumbersInRange) }
+{
+    match walk.grow(alloc, bank, atoms, steps, witnesses, used, start, nodes)? {
+        Grown::Whole(made) => {
+            let refutation = walk.into_refutation(alloc, bank, atoms, witnesses)?;
+            Ok(Stripped::Tree {
+                refutation,
+                nodes: made,
+            })
+        }
+        Grown::Open => {
+            let branch = walk.branch(alloc, bank, atoms, witnesses)?;
+            Ok(Stripped::Open { branch })
+        }
+        Grown::Over => Ok(Stripped::Over { nodes }),
+    }
+}
+
 /// What a walk from an open start comes to.
 fn grown(
     alloc: Global,
@@ -121,23 +161,33 @@ fn grown(
     ensures in_range { IfOk result (OfTree AreNumbersInRange) }
 {
     let start = path.as_slice().to_vec(alloc)?;
-    let mut walk = Walk::new(alloc, path);
-    match walk.grow(alloc, bank, atoms, steps, witnesses, used, &start, nodes)? {
-        Grown::Whole(made) => {
-            let Walk { writing, .. } = walk;
-            let refutation = writing.finish(alloc, bank, atoms, witnesses)?;
-            Ok(Stripped::Tree {
-                refutation,
-                nodes: made,
-            })
-        }
-        Grown::Open => {
-            let branch = walk
-                .writing
-                .literals(alloc, bank, atoms, witnesses, walk.path.as_slice())?;
-            Ok(Stripped::Open { branch })
-        }
-        Grown::Over => Ok(Stripped::Over { nodes }),
+    let walk = Walk::new(alloc, path);
+    walked(
+        alloc, bank, atoms, steps, witnesses, used, nodes, &start, walk,
+    )
+}
+
+/// What comes of a start.
+fn from_path(
+    alloc: Global,
+    bank: &Bank,
+    atoms: &LitTable,
+    steps: &StepTable,
+    witnesses: &Witnesses,
+    used: &[usize],
+    nodes: u32,
+    path: Path,
+) -> Result<Stripped, AllocError>
+    requires rows { AreRows bank.now witnesses.now }
+    requires atoms { All (IsAtom bank.now) atoms.now }
+    requires used { All (IsUsable bank.now atoms.now (rows_of bank.now.terms witnesses.now) steps.now) used.now }
+    requires path { IsPath (length atoms.now) steps.now used.now path }
+    ensures exactly { IfOk result (IsStripped (atoms_at bank.now.terms atoms.now) (rows_of bank.now.terms witnesses.now) (the_used bank.now.terms atoms.now steps.now used.now) nodes path.literals.keys) }
+    ensures in_range { IfOk result (OfTree AreNumbersInRange) }
+{
+    match path.first_clash() {
+        Some(lit) => at_once(alloc, bank, atoms, steps, witnesses, used, nodes, lit, path),
+        None => grown(alloc, bank, atoms, steps, witnesses, used, nodes, path),
     }
 }
 
@@ -167,8 +217,5 @@ pub fn strip(
     tree_is_accepted();
     let used = used.as_slice();
     let path = start_path(alloc, bank, lits, steps, witnesses, used)?;
-    match path.first_clash() {
-        Some(lit) => Ok(at_once(alloc, bank, lits, steps, witnesses, used, nodes, lit, path)?),
-        None => Ok(grown(alloc, bank, lits, steps, witnesses, used, nodes, path)?),
-    }
+    from_path(alloc, bank, lits, steps, witnesses, used, nodes, path)
 }

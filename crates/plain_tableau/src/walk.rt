@@ -1,5 +1,5 @@
 //! The walk over the branches of a tree, depth first.
-ghost use Rattle.std.specs.Prelude.{◌≡◌, ◌<◌, ◌≤◌, ◌+◌, ℕ, List, true, false, [], length, reverse, Some, slice_get, IfOk, OnOk, All};
+ghost use Rattle.std.specs.Prelude.{◌≡◌, ◌<◌, ◌≤◌, ◌+◌, ℕ, List, true, false, [], length, reverse, take, Some, slice_get, IfOk, OnOk, All};
 ghost use Rattle.std.specs.List.{position_or_len};
 ghost use Rattle.sat_base.specs.Literal.{IsOver};
 ghost use Rattle.term_bank.specs.Content.{Content};
@@ -8,6 +8,9 @@ ghost use Rattle.search_spec.specs.Numbered.{numbers};
 ghost use Rattle.literal_map.specs.Atoms.{IsAtom};
 ghost use Rattle.witness_names.specs.Rows.{rows_of, AreRows};
 ghost use Rattle.tableau_clauses.specs.Table.{the_instances};
+ghost use Rattle.rebuild_spec.specs.Input.{literals_of};
+ghost use Rattle.rebuild_spec.specs.NeededRows.{rows_for_lines};
+ghost use Rattle.small_rebuilt.specs.Small.{AreNumbersInRange};
 ghost use Rattle.tableau_rebuild.specs.Tables.{atoms_at};
 ghost use Rattle.plain_tableau.specs.Tables.{the_used, IsUsable};
 ghost use Rattle.plain_tableau.specs.Internal.Due.{is_due_at, IsPath};
@@ -19,7 +22,7 @@ use crate::writing::Writing;
 use literal_map::LitTable;
 use sat_base::SatLit;
 use std::alloc::{AllocError, Global};
-use tableau_calculus::{Child, Children};
+use tableau_calculus::{Child, Children, Lits, Refutation};
 use tableau_clauses::StepTable;
 use term_bank::Bank;
 use witness_names::Witnesses;
@@ -241,7 +244,7 @@ impl Walk {
             children: Children::new(alloc),
         };
         self.frames.push(frame)?;
-        Ok(self.advance(
+        self.advance(
             alloc,
             bank,
             atoms,
@@ -251,7 +254,7 @@ impl Walk {
             start,
             nodes,
             made + 1,
-        )?)
+        )
     }
 
     /// Walks from an open start to the end.
@@ -292,5 +295,40 @@ impl Walk {
             None => Ok(Grown::Open),
             Some(_) => Ok(Grown::Over),
         }
+    }
+
+    /// The refutation of the lines that are written.
+    pub(crate) fn into_refutation(
+        self,
+        alloc: Global,
+        bank: &Bank,
+        atoms: &LitTable,
+        witnesses: &Witnesses,
+    ) -> Result<Refutation, AllocError>
+        requires rows { AreRows bank.now witnesses.now }
+        requires writing { IsWriting bank.now atoms.now witnesses.now self.writing }
+        ensures lines { IfOk result (λ refutation. refutation.lines ≡ self.writing.lines) }
+        ensures rows { IfOk result (λ refutation. refutation.witnesses ≡ take (rows_for_lines (rows_of bank.now.terms witnesses.now) refutation.lines) (rows_of bank.now.terms witnesses.now)) }
+        ensures in_range { IfOk result AreNumbersInRange }
+    {
+        let Walk { writing, .. } = self;
+        writing.finish(alloc, bank, atoms, witnesses)
+    }
+
+    /// The literals of the branch.
+    pub(crate) fn branch(
+        &mut self,
+        alloc: Global,
+        bank: &Bank,
+        atoms: &LitTable,
+        witnesses: &Witnesses,
+    ) -> Result<Lits, AllocError>
+        requires atoms { All (IsAtom bank.now) atoms.now }
+        requires numbered { IsOver (length atoms.now) self.old.path.literals.keys }
+        requires writing { IsWriting bank.now atoms.now witnesses.now self.old.writing }
+        ensures { IfOk result (λ ls. ls ≡ literals_of (atoms_at bank.now.terms atoms.now) self.old.path.literals.keys) }
+    {
+        self.writing
+            .literals(alloc, bank, atoms, witnesses, self.path.as_slice())
     }
 }

@@ -1,4 +1,5 @@
-use Rattle.std.proofs.Common.{◌≡◌, ℕ, List, sym, subst}
+use Rattle.std.proofs.Common.{◌≡◌, ◌≤◌, ℕ, List, sym, subst, ◌∙◌}
+use Rattle.std.proofs.lemmas.Result.{IfOk-weaker}
 use Rattle.stt_core.specs.Lambda.{Lambda}
 use Rattle.stt_core.specs.Typing.{Scope}
 use Rattle.tableau_calculus.specs.Literals.{Literal}
@@ -15,7 +16,7 @@ use Rattle.rebuild_spec.specs.Trimmed.{IsEachReached}
 use Rattle.tableau_rebuild.specs.Tables.{atoms_at, unit_literals}
 use Rattle.plain_tableau.specs.Trees.{TreeInstance}
 use Rattle.plain_tableau.specs.Given.{AreInstancesGiven}
-use Rattle.plain_tableau.specs.Laws.{TreeIsAccepted, TreeHasNoCut, TreeIsReached}
+use Rattle.plain_tableau.specs.Laws.{TreeIsAccepted, TreeHasNoCut, TreeIsReached, TreeIsWithin}
 use Rattle.tableau_calculus.specs.CutFree.{HasNoCut}
 use Rattle.plain_tableau.specs.Tables.{the_used, start_branch, IsStripped, OfTree, IsWithinLimit}
 use Rattle.plain_tableau.specs.declared.stripped.Stripped.{Stripped}
@@ -44,13 +45,31 @@ module _ (scope : Scope) (rows : List Row) (atoms : List Lambda) (used : List (T
   all_reached law (Open branch) h = tt
   all_reached law (Over n) h = tt
 
+  all_within : TreeIsWithin → (s : Stripped) → IsStripped atoms rows used limit start s → IsWithinLimit limit s
+  all_within law (Whole refutation n) h =
+      let lines = law rows atoms used limit start h.0 refutation h.1 h.3 in
+      (lines.0 ∙ sym h.2, subst (λ m. m ≤ limit) (sym h.2) lines.1)
+  all_within law (Open branch) h = tt
+  all_within law (Over n) h = tt
+
 -- over the list itself, and from the start
 stripped : (A : List Lambda) (rows : List Row) (terms : List Lambda) (atoms : List ℕ) (t : Table) (us used : List ℕ) (limit : ℕ) (keys start : List SatLit) (s : Stripped) → us ≡ used → keys ≡ start → IsStripped A rows (the_used terms atoms t us) limit keys s → IsStripped A rows (the_used terms atoms t used) limit start s
 stripped A rows terms atoms t us used limit keys start s e f h =
     subst (λ ks. IsStripped A rows (the_used terms atoms t used) limit ks s) f (subst (λ vs. IsStripped A rows (the_used terms atoms t vs) limit keys s) e h)
 
-pub returns-in_ok-at_once-in-Some-clause-accepted : goal.returns-in_ok-at_once-in-Some-clause-accepted
-returns-in_ok-at_once-in-Some-clause-accepted c =
+pub returns-clause-exactly : goal.returns-clause-exactly
+returns-clause-exactly c =
+    let b = c.args.bank.now in
+    let atoms = c.args.lits.now in
+    let t = c.args.steps.now in
+    let A = atoms_at b.terms atoms in
+    let rows = rows_of b.terms c.args.witnesses.now in
+    IfOk-weaker c.from_path.result _ _
+    (λ s h. stripped A rows b.terms atoms t c.as_slice-used.result.now c.args.used.now c.args.nodes c.in_ok-path.path.literals.keys (start_branch t) s c.as_slice-used.ensures c.in_ok-path.ensures.start h)
+    c.from_path.ensures.exactly
+
+pub returns-clause-accepted : goal.returns-clause-accepted
+returns-clause-accepted c =
     let b = c.args.bank.now in
     let atoms = c.args.lits.now in
     let t = c.args.steps.now in
@@ -58,73 +77,47 @@ returns-in_ok-at_once-in-Some-clause-accepted c =
     let rows = rows_of b.terms c.args.witnesses.now in
     let U = the_used b.terms atoms t c.args.used.now in
     let given = tables_given b atoms c.args.witnesses.now t c.requires.rows c.requires.atoms c.args.used.now c.requires.used in
-    let exactly = stripped A rows b.terms atoms t c.as_slice-used.result.now c.args.used.now c.args.nodes c.in_ok-path.path.literals.keys (start_branch t) c.in_ok-at_once-in-Some.field-0 c.as_slice-used.ensures c.in_ok-path.ensures.start c.in_ok-at_once-in-Some.ensures.exactly in
-    all_accepted (content_scope b) rows A U c.args.nodes (start_branch t) (unit_literals A t.0) c.tree_is_accepted.ensures.accepted given (start_within A t) c.in_ok-at_once-in-Some.field-0 exactly
+    IfOk-weaker c.from_path.result _ _
+    (λ s h. all_accepted (content_scope b) rows A U c.args.nodes (start_branch t) (unit_literals A t.0) c.tree_is_accepted.ensures.accepted given (start_within A t) s h)
+    (returns-clause-exactly c)
 
-pub returns-in_ok-at_once-in-Some-clause-closed : goal.returns-in_ok-at_once-in-Some-clause-closed
-returns-in_ok-at_once-in-Some-clause-closed c =
+pub returns-clause-closed : goal.returns-clause-closed
+returns-clause-closed c =
     let b = c.args.bank.now in
     let atoms = c.args.lits.now in
     let t = c.args.steps.now in
     let A = atoms_at b.terms atoms in
-    all_closed (content_scope b) (rows_of b.terms c.args.witnesses.now) A (the_used b.terms atoms t c.args.used.now) c.args.nodes (start_branch t) (unit_literals A t.0) c.in_ok-at_once-in-Some.field-0 (returns-in_ok-at_once-in-Some-clause-accepted c)
+    IfOk-weaker c.from_path.result _ _
+    (λ s h. all_closed (content_scope b) (rows_of b.terms c.args.witnesses.now) A (the_used b.terms atoms t c.args.used.now) c.args.nodes (start_branch t) (unit_literals A t.0) s h)
+    (returns-clause-accepted c)
 
-pub returns-in_ok-at_once-in-Some-clause-no_cut : goal.returns-in_ok-at_once-in-Some-clause-no_cut
-returns-in_ok-at_once-in-Some-clause-no_cut c =
+pub returns-clause-no_cut : goal.returns-clause-no_cut
+returns-clause-no_cut c =
     let b = c.args.bank.now in
     let atoms = c.args.lits.now in
     let t = c.args.steps.now in
     let A = atoms_at b.terms atoms in
-    let rows = rows_of b.terms c.args.witnesses.now in
-    let U = the_used b.terms atoms t c.args.used.now in
     let given = tables_given b atoms c.args.witnesses.now t c.requires.rows c.requires.atoms c.args.used.now c.requires.used in
-    let exactly = stripped A rows b.terms atoms t c.as_slice-used.result.now c.args.used.now c.args.nodes c.in_ok-path.path.literals.keys (start_branch t) c.in_ok-at_once-in-Some.field-0 c.as_slice-used.ensures c.in_ok-path.ensures.start c.in_ok-at_once-in-Some.ensures.exactly in
-    none_cut (content_scope b) rows A U c.args.nodes (start_branch t) (unit_literals A t.0) c.tree_is_accepted.ensures.no_cut given c.in_ok-at_once-in-Some.field-0 exactly
+    IfOk-weaker c.from_path.result _ _
+    (λ s h. none_cut (content_scope b) (rows_of b.terms c.args.witnesses.now) A (the_used b.terms atoms t c.args.used.now) c.args.nodes (start_branch t) (unit_literals A t.0) c.tree_is_accepted.ensures.no_cut given s h)
+    (returns-clause-exactly c)
 
-pub returns-in_ok-grown-in-None-clause-accepted : goal.returns-in_ok-grown-in-None-clause-accepted
-returns-in_ok-grown-in-None-clause-accepted c =
+pub returns-clause-within : goal.returns-clause-within
+returns-clause-within c =
     let b = c.args.bank.now in
     let atoms = c.args.lits.now in
     let t = c.args.steps.now in
     let A = atoms_at b.terms atoms in
-    let rows = rows_of b.terms c.args.witnesses.now in
-    let U = the_used b.terms atoms t c.args.used.now in
-    let given = tables_given b atoms c.args.witnesses.now t c.requires.rows c.requires.atoms c.args.used.now c.requires.used in
-    let exactly = stripped A rows b.terms atoms t c.as_slice-used.result.now c.args.used.now c.args.nodes c.in_ok-path.path.literals.keys (start_branch t) c.in_ok-grown-in-None.field-0 c.as_slice-used.ensures c.in_ok-path.ensures.start c.in_ok-grown-in-None.ensures.exactly in
-    all_accepted (content_scope b) rows A U c.args.nodes (start_branch t) (unit_literals A t.0) c.tree_is_accepted.ensures.accepted given (start_within A t) c.in_ok-grown-in-None.field-0 exactly
+    IfOk-weaker c.from_path.result _ _
+    (λ s h. all_within (content_scope b) (rows_of b.terms c.args.witnesses.now) A (the_used b.terms atoms t c.args.used.now) c.args.nodes (start_branch t) (unit_literals A t.0) c.tree_is_accepted.ensures.within s h)
+    (returns-clause-exactly c)
 
-pub returns-in_ok-grown-in-None-clause-closed : goal.returns-in_ok-grown-in-None-clause-closed
-returns-in_ok-grown-in-None-clause-closed c =
+pub returns-clause-reached : goal.returns-clause-reached
+returns-clause-reached c =
     let b = c.args.bank.now in
     let atoms = c.args.lits.now in
     let t = c.args.steps.now in
     let A = atoms_at b.terms atoms in
-    all_closed (content_scope b) (rows_of b.terms c.args.witnesses.now) A (the_used b.terms atoms t c.args.used.now) c.args.nodes (start_branch t) (unit_literals A t.0) c.in_ok-grown-in-None.field-0 (returns-in_ok-grown-in-None-clause-accepted c)
-
-pub returns-in_ok-grown-in-None-clause-no_cut : goal.returns-in_ok-grown-in-None-clause-no_cut
-returns-in_ok-grown-in-None-clause-no_cut c =
-    let b = c.args.bank.now in
-    let atoms = c.args.lits.now in
-    let t = c.args.steps.now in
-    let A = atoms_at b.terms atoms in
-    let rows = rows_of b.terms c.args.witnesses.now in
-    let U = the_used b.terms atoms t c.args.used.now in
-    let given = tables_given b atoms c.args.witnesses.now t c.requires.rows c.requires.atoms c.args.used.now c.requires.used in
-    let exactly = stripped A rows b.terms atoms t c.as_slice-used.result.now c.args.used.now c.args.nodes c.in_ok-path.path.literals.keys (start_branch t) c.in_ok-grown-in-None.field-0 c.as_slice-used.ensures c.in_ok-path.ensures.start c.in_ok-grown-in-None.ensures.exactly in
-    none_cut (content_scope b) rows A U c.args.nodes (start_branch t) (unit_literals A t.0) c.tree_is_accepted.ensures.no_cut given c.in_ok-grown-in-None.field-0 exactly
-
-pub returns-in_ok-at_once-in-Some-clause-reached : goal.returns-in_ok-at_once-in-Some-clause-reached
-returns-in_ok-at_once-in-Some-clause-reached c =
-    let b = c.args.bank.now in
-    let atoms = c.args.lits.now in
-    let t = c.args.steps.now in
-    let A = atoms_at b.terms atoms in
-    all_reached (content_scope b) (rows_of b.terms c.args.witnesses.now) A (the_used b.terms atoms t c.as_slice-used.result.now) c.args.nodes c.in_ok-path.path.literals.keys (unit_literals A t.0) c.tree_is_accepted.ensures.reached c.in_ok-at_once-in-Some.field-0 c.in_ok-at_once-in-Some.ensures.exactly
-
-pub returns-in_ok-grown-in-None-clause-reached : goal.returns-in_ok-grown-in-None-clause-reached
-returns-in_ok-grown-in-None-clause-reached c =
-    let b = c.args.bank.now in
-    let atoms = c.args.lits.now in
-    let t = c.args.steps.now in
-    let A = atoms_at b.terms atoms in
-    all_reached (content_scope b) (rows_of b.terms c.args.witnesses.now) A (the_used b.terms atoms t c.as_slice-used.result.now) c.args.nodes c.in_ok-path.path.literals.keys (unit_literals A t.0) c.tree_is_accepted.ensures.reached c.in_ok-grown-in-None.field-0 c.in_ok-grown-in-None.ensures.exactly
+    IfOk-weaker c.from_path.result _ _
+    (λ s h. all_reached (content_scope b) (rows_of b.terms c.args.witnesses.now) A (the_used b.terms atoms t c.args.used.now) c.args.nodes (start_branch t) (unit_literals A t.0) c.tree_is_accepted.ensures.reached s h)
+    (returns-clause-exactly c)
