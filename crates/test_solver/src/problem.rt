@@ -6,7 +6,7 @@ use sat_core::{Answer, Solver};
 use std::alloc::{AllocError, Global};
 
 /// A solver beside the clauses that it was given.
-#[derive(Debug, Drop)]
+#[derive(Drop)]
 pub struct Problem {
     pub solver: Solver,
     clauses: ClauseStore,
