@@ -2,15 +2,15 @@
 use Rattle.std.specs.Prelude.{◌≡◌, ◌==◌, ◌≤◌, ◌<◌, ◌+◌, ◌-◌, ◌++◌, ℕ, zero, suc, Bool, true, false, List, [], ◌∷◌, map, take, length, nat_lt, Option, Some, None, refl, if◌then◌else◌}
 use Rattle.std.proofs.Common.{sym, ap, subst, ◌∙◌, arith, eqb-true, ltb-true, length-append}
 use Rattle.std.proofs.lemmas.List.{length-map}
-use Rattle.stt_core.specs.Lambda.{Lambda, bound, constant, name, witness, all, equality, choice}
-use Rattle.stt_core.specs.SimpleType.{SimpleType, base}
+use Rattle.stt_core.specs.Lambda.{Lambda, bound, constant, name, witness, all, equality}
+use Rattle.stt_core.specs.SimpleType.{SimpleType}
 use Rattle.stt_core.specs.Typing.{Scope}
 use Rattle.tableau_calculus.specs.Literals.{Literal}
 use Rattle.tableau_calculus.specs.Witnesses.{with_rows}
 use Rattle.mode_file.specs.declared.Mode.{Mode}
 use Rattle.search_spec.specs.Defaults.{is_value_choice, default_delay}
 use Rattle.search_spec.specs.Each.{Each}
-use Rattle.search_spec.specs.Heads.{places_to, bases_from, logical_heads, fitting_heads, heads_for}
+use Rattle.search_spec.specs.Heads.{places_to, bases_from, logical_heads, heads_for}
 use Rattle.search_spec.specs.Partial.{Hole, first_hole}
 use Rattle.search_spec.specs.Partners.{positive_first}
 use Rattle.search_spec.specs.State.{State, Command as Meant, process, mate, confront, inst, grow, choose, describe}

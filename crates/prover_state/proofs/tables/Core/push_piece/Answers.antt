@@ -1,9 +1,9 @@
-use Rattle.std.proofs.Common.{◌≡◌, ◌+◌, ◌∷◌, suc, List, Option, sym, ap, subst, ◌∙◌, arith}
+use Rattle.std.proofs.Common.{◌≡◌, ◌∷◌, List, Option, sym, ap, subst, ◌∙◌}
 use Rattle.search_spec.specs.Each.{Each}
 use Rattle.search_spec.specs.State.{Command as Meant, with_commands}
 use Rattle.prover_state.specs.declared.command.Rest.{Rest}
 use Rattle.prover_state.specs.Internal.Names.{command_at}
-use Rattle.prover_state.specs.Internal.Pending.{later_of, rest_between, IsEntry}
+use Rattle.prover_state.specs.Internal.Pending.{later_of, IsEntry}
 use Rattle.prover_state.specs.Internal.Pieces.{extra_delay}
 use Rattle.prover_state.specs.Internal.Standing.{without_witnesses, naming_in, sources, the_state}
 use Rattle.prover_state.proofs.WholeLaws.{there-part, part-is}
