@@ -5,13 +5,15 @@ ghost use Rattle.outside.specs.Causes.{Rose};
 ghost use Rattle.outside.specs.Prefix.{AppendsProperly};
 ghost use Rattle.refute_print.specs.Text.{as_bytes};
 ghost use Rattle.szs_report.specs.Internal.Pieces.{piece_bytes, Writes};
-ghost use Rattle.szs_report.specs.Report.{headed_report, line_report, mode_lines, tree_lines, proof_report, model_report, claim_status, file_name, place_report, refused_report, refused_in, demo_report, line_why, report_of};
+ghost use Rattle.szs_report.specs.Report.{headed_report, line_report, mode_lines, tree_lines, proof_report, model_report, claim_status, file_name, place_report, ill_word, include_word, mode_word, schedule_word, refused_report, refused_in, demo_report, line_why, report_of};
 
 use crate::answer::{Answer, Claim, NamedFile, TreeReport};
 use crate::causes::{ill_word, include_word, mode_word, schedule_word, why_word};
+use crate::outcome::{IncludeWhy, ModeWhy, ScheduleWhy};
 use crate::piece::{Piece, write_each};
 use crate::proof_text::ProofText;
 use outside::{Failed, Sink};
+use type_check::IllWhy;
 
 const COUNTER_SATISFIABLE: &[u8] = b"% SZS status CounterSatisfiable for ";
 
@@ -28,6 +30,8 @@ const INPUT_ERROR: &[u8] = b"% SZS status InputError for ";
 /// What stands before the size up to which there is no model.
 const NO_MODEL: &[u8] = b"% no model up to ";
 /// What stands before a size that has too many candidates for a model.
+const COMMANDS: &[u8] = b"% commands ";
+
 const TOO_MANY: &[u8] = b"% models too many at size ";
 
 const USAGE: &[u8] =
@@ -79,6 +83,15 @@ fn write_numbered<S: Sink>(
 {
     let number = u64::from(number);
     write_headed(out, status, name, word, Piece::Number(number))
+}
+
+/// Writes the report of a spent conflict budget.
+fn write_spent<S: Sink>(out: &mut S, name: &[u8], conflicts: u64) -> Result<(), Failed>
+    ensures { Writes S.tells S.written S.faults out.old out.new
+        (headed_report (codes "% SZS status ResourceOut for ") name.now (codes "% conflict limit ") (decimal conflicts)) result }
+{
+    let conflicts = Piece::Number(conflicts);
+    write_headed(out, RESOURCE_OUT, name, b"% conflict limit ", conflicts)
 }
 
 /// Writes the report of a whole file.
@@ -148,6 +161,34 @@ fn write_refused<'a, S: Sink>(
     )
 }
 
+/// Writes the report of a statement that has no type.
+fn write_ill<S: Sink>(
+    out: &mut S,
+    name: &[u8],
+    file: &NamedFile,
+    at: u32,
+    why: IllWhy,
+) -> Result<(), Failed>
+    ensures { Writes S.tells S.written S.faults out.old out.new
+        (headed_report (codes "% SZS status InputError for ") name.now (codes "% type ") (refused_in (file_name file.now) at (ill_word why))) result }
+{
+    write_refused(out, name, b"% type ", file, at, ill_word(why))
+}
+
+/// Writes the report of an include that is refused.
+fn write_include<S: Sink>(
+    out: &mut S,
+    name: &[u8],
+    file: &NamedFile,
+    at: u32,
+    why: IncludeWhy,
+) -> Result<(), Failed>
+    ensures { Writes S.tells S.written S.faults out.old out.new
+        (headed_report (codes "% SZS status InputError for ") name.now (codes "% include ") (refused_in (file_name file.now) at (include_word why))) result }
+{
+    write_refused(out, name, b"% include ", file, at, include_word(why))
+}
+
 /// Writes the report of a line of a mode's file or of a schedule's that isn't taken, and why.
 fn write_line_why<'a, S: Sink>(
     out: &mut S,
@@ -172,6 +213,27 @@ fn write_line_why<'a, S: Sink>(
             Piece::Bytes(b"\n"),
         ],
     )
+}
+
+/// Writes the report of a line of a mode's file that isn't taken.
+fn write_mode<S: Sink>(out: &mut S, name: &[u8], line: u32, why: ModeWhy) -> Result<(), Failed>
+    ensures { Writes S.tells S.written S.faults out.old out.new
+        (headed_report (codes "% SZS status InputError for ") name.now (codes "% mode ") (line_why (decimal line) (mode_word why))) result }
+{
+    write_line_why(out, name, b"% mode ", line, mode_word(why))
+}
+
+/// Writes the report of a line of a schedule's file that isn't taken.
+fn write_schedule<S: Sink>(
+    out: &mut S,
+    name: &[u8],
+    line: u32,
+    why: ScheduleWhy,
+) -> Result<(), Failed>
+    ensures { Writes S.tells S.written S.faults out.old out.new
+        (headed_report (codes "% SZS status InputError for ") name.now (codes "% schedule ") (line_why (decimal line) (schedule_word why))) result }
+{
+    write_line_why(out, name, b"% schedule ", line, schedule_word(why))
 }
 
 /// Writes the report of a text that is refused at a line.
@@ -321,16 +383,11 @@ fn write_answer<S: Sink>(out: &mut S, name: &[u8], answer: &Answer) -> Result<()
             tree,
             text,
         } => write_proof(out, name, *claim, *commands, *mode, *tree, text),
-        Answer::GaveUp { commands } => {
-            write_numbered(out, GAVE_UP, name, b"% commands ", *commands)
-        }
+        Answer::GaveUp { commands } => write_numbered(out, GAVE_UP, name, COMMANDS, *commands),
         Answer::CommandLimit { commands } => {
             write_numbered(out, RESOURCE_OUT, name, b"% command limit ", *commands)
         }
-        Answer::ConflictLimit { conflicts } => {
-            let conflicts = Piece::Number(*conflicts);
-            write_headed(out, RESOURCE_OUT, name, b"% conflict limit ", conflicts)
-        }
+        Answer::ConflictLimit { conflicts } => write_spent(out, name, *conflicts),
         Answer::DemoDone { claim, commands } => write_demo(out, name, *claim, *commands),
         Answer::Accepted => write_line(out, b"% refutation accepted for ", name),
         Answer::Refused { line, why } => write_refusal(out, name, *line, why_word(*why)),
@@ -346,18 +403,10 @@ fn write_answer<S: Sink>(out: &mut S, name: &[u8], answer: &Answer) -> Result<()
         Answer::Different => write_line(out, b"% sides not convertible for ", name),
         Answer::NoEquation => write_line(out, b"% no equation for ", name),
         Answer::SyntaxAt { file, at } => write_syntax(out, name, file, *at),
-        Answer::TypeAt { file, at, why } => {
-            write_refused(out, name, b"% type ", file, *at, ill_word(*why))
-        }
-        Answer::IncludeAt { file, at, why } => {
-            write_refused(out, name, b"% include ", file, *at, include_word(*why))
-        }
-        Answer::ModeAt { line, why } => {
-            write_line_why(out, name, b"% mode ", *line, mode_word(*why))
-        }
-        Answer::ScheduleAt { line, why } => {
-            write_line_why(out, name, b"% schedule ", *line, schedule_word(*why))
-        }
+        Answer::TypeAt { file, at, why } => write_ill(out, name, file, *at, *why),
+        Answer::IncludeAt { file, at, why } => write_include(out, name, file, *at, *why),
+        Answer::ModeAt { line, why } => write_mode(out, name, *line, *why),
+        Answer::ScheduleAt { line, why } => write_schedule(out, name, *line, *why),
         Answer::Words => write_each(out, &[Piece::Bytes(USAGE)]),
         Answer::TooLong { file } => write_file(out, name, b"% too long ", file),
         Answer::ReadFault { file } => write_file(out, name, b"% read fault ", file),

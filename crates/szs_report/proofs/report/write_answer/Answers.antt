@@ -10,7 +10,7 @@ pub returns-in-CommandLimit : goal.returns-in-CommandLimit
 returns-in-CommandLimit g c = rw (c.in-CommandLimit.is) c.write_numbered-in-CommandLimit.ensures
 
 pub returns-in-ConflictLimit : goal.returns-in-ConflictLimit
-returns-in-ConflictLimit g c = rw (c.in-ConflictLimit.is) c.write_headed.ensures
+returns-in-ConflictLimit g c = rw (c.in-ConflictLimit.is) c.write_spent.ensures
 
 pub returns-in-DemoDone : goal.returns-in-DemoDone
 returns-in-DemoDone g c = rw (c.in-DemoDone.is) c.write_demo.ensures
@@ -46,16 +46,16 @@ pub returns-in-SyntaxAt : goal.returns-in-SyntaxAt
 returns-in-SyntaxAt g c = rw (c.in-SyntaxAt.is) c.write_syntax.ensures
 
 pub returns-in-TypeAt : goal.returns-in-TypeAt
-returns-in-TypeAt g c = rw (c.in-TypeAt.is, ← c.ill_word.ensures) c.write_refused.ensures
+returns-in-TypeAt g c = rw (c.in-TypeAt.is) c.write_ill.ensures
 
 pub returns-in-IncludeAt : goal.returns-in-IncludeAt
-returns-in-IncludeAt g c = rw (c.in-IncludeAt.is, ← c.include_word.ensures) c.write_refused-in-IncludeAt.ensures
+returns-in-IncludeAt g c = rw (c.in-IncludeAt.is) c.write_include.ensures
 
 pub returns-in-ModeAt : goal.returns-in-ModeAt
-returns-in-ModeAt g c = rw (c.in-ModeAt.is, ← c.mode_word.ensures) c.write_line_why.ensures
+returns-in-ModeAt g c = rw (c.in-ModeAt.is) c.write_mode.ensures
 
 pub returns-in-ScheduleAt : goal.returns-in-ScheduleAt
-returns-in-ScheduleAt g c = rw (c.in-ScheduleAt.is, ← c.schedule_word.ensures) c.write_line_why-in-ScheduleAt.ensures
+returns-in-ScheduleAt g c = rw (c.in-ScheduleAt.is) c.write_schedule.ensures
 
 pub returns-in-Words : goal.returns-in-Words
 returns-in-Words g c = rw (c.in-Words.is) c.write_each.ensures
@@ -67,7 +67,7 @@ pub returns-in-ReadFault : goal.returns-in-ReadFault
 returns-in-ReadFault g c = rw (c.in-ReadFault.is) c.write_file-in-ReadFault.ensures
 
 pub returns-in-Memory : goal.returns-in-Memory
-returns-in-Memory g c = rw (c.in-Memory.is) c.write_headed-in-Memory.ensures
+returns-in-Memory g c = rw (c.in-Memory.is) c.write_headed.ensures
 
 pub returns-in-UnreadWords : goal.returns-in-UnreadWords
 returns-in-UnreadWords g c = rw (c.in-UnreadWords.is) c.write_each-in-UnreadWords.ensures
