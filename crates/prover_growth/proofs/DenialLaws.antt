@@ -13,7 +13,7 @@ use Rattle.stt_core.proofs.ListLaws.{map-append, slice_get-end}
 use Rattle.stt_core.proofs.SameTerms.{same_term-true}
 use Rattle.stt_core.proofs.TypeLaws.{same_type_refl}
 use Rattle.tableau_calculus.specs.Literals.{Literal, minus}
-use Rattle.tableau_calculus.specs.Rules.{all_neg_rule, IsInstance}
+use Rattle.tableau_calculus.specs.Rules.{all_neg_rule, IsInstance, all_neg}
 use Rattle.tableau_calculus.specs.Witnesses.{Row}
 use Rattle.tableau_calculus.specs.declared.refutation.RuleUse.{RuleUse}
 use Rattle.tableau_calculus.specs.declared.refutation.RuleUse.TheVariants.{AllNeg}
@@ -31,7 +31,6 @@ use Rattle.witness_names.specs.Rows.{binder_of, row_of, rows_of, with_predicate}
 use Rattle.tableau_rules.specs.Changes.{Widens, HasWitness}
 use Rattle.tableau_rules.specs.Uses.{principals_of, IsInstanceBy}
 use Rattle.refute_print.specs.Sizes.{IsSmallTerm}
-use Rattle.search_spec.specs.Alternatives.{all_neg}
 use Rattle.search_spec.specs.Each.{Each}
 use Rattle.search_spec.specs.Witness.{same_row, witness_of}
 use Rattle.search_spec.proofs.NamingLaws.{either}

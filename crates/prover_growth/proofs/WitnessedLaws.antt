@@ -6,7 +6,7 @@ use Rattle.stt_core.specs.SimpleType.{SimpleType, target}
 use Rattle.stt_core.specs.Lambda.{witness, Lambda, constant, every}
 use Rattle.tableau_calculus.specs.Literals.{Literal, minus}
 use Rattle.tableau_calculus.specs.Witnesses.{Row}
-use Rattle.search_spec.specs.Alternatives.{Alternatives, all_neg}
+use Rattle.tableau_calculus.specs.Rules.{Alternatives, all_neg}
 use Rattle.search_spec.specs.Instances.{with_instance}
 use Rattle.mode_file.specs.declared.Mode.{Mode}
 use Rattle.search_spec.specs.State.{State, Setting, Sketch, grow, with_commands}

@@ -3,7 +3,6 @@ pub use Rattle.instantiate.specs.Growing
 pub use Rattle.instantiate.specs.Listing
 pub use Rattle.literal_map.specs.Atoms
 pub use Rattle.prover_state.specs.Lasting
-pub use Rattle.search_spec.specs.Alternatives
 pub use Rattle.search_spec.specs.Commands
 pub use Rattle.search_spec.specs.Each
 pub use Rattle.search_spec.specs.Heads
@@ -18,6 +17,7 @@ pub use Rattle.stt_core.specs.Lambda
 pub use Rattle.stt_core.specs.SimpleType
 pub use Rattle.stt_core.specs.View
 pub use Rattle.tableau_calculus.specs.Literals
+pub use Rattle.tableau_calculus.specs.Rules
 pub use Rattle.term_bank.specs.Content
 pub use Rattle.term_bank.specs.Terms as TermBankTerms
 pub mod Internal

@@ -4,7 +4,7 @@ ghost use Rattle.stt_core.specs.SimpleType.{SimpleType, base, target};
 ghost use Rattle.stt_core.specs.Lambda.{Lambda};
 ghost use Rattle.literal_map.specs.Atoms.{bank_literal};
 ghost use Rattle.instantiate.specs.Listing.{with_listed};
-ghost use Rattle.search_spec.specs.Alternatives.{all_neg};
+ghost use Rattle.tableau_calculus.specs.Rules.{all_neg};
 ghost use Rattle.search_spec.specs.Witness.{witness_of};
 ghost use Rattle.prover_growth.specs.Internal.Denials.{Denies, with_row};
 ghost use Rattle.prover_state.specs.Lasting.{declarations_of, lasting};

@@ -7,14 +7,13 @@ use Rattle.stt_core.specs.Lambda.{falsity, Lambda, constant, applied, imp, eq}
 use Rattle.stt_core.specs.Typing.{Scope, IsScope, type_of}
 use Rattle.stt_core.specs.Canonical.{IsCanonical}
 use Rattle.tableau_calculus.specs.Literals.{Literal, plus, minus}
-use Rattle.tableau_calculus.specs.Rules.{false_rule, refl_rule, imp_pos_rule, imp_neg_rule, bool_pos_rule, bool_neg_rule, fun_pos_rule, fun_neg_rule, dec_rule}
+use Rattle.tableau_calculus.specs.Rules.{false_rule, refl_rule, imp_pos_rule, imp_neg_rule, bool_pos_rule, bool_neg_rule, fun_pos_rule, fun_neg_rule, dec_rule, Alternatives, imp_pos, imp_neg, bool_pos, bool_neg, fun_pos, fun_neg, differ}
 use Rattle.tableau_calculus.specs.declared.refutation.RuleUse.TheVariants.{False, Refl, ImpPos, ImpNeg, BoolPos, BoolNeg, FunPos, FunNeg, Dec}
 use Rattle.tableau_calculus.proofs.EquationLaws.{eq_canonical}
 use Rattle.sat_base.specs.declared.literal.SatLit.{SatLit}
 use Rattle.search_spec.specs.Mode.{standard_mode}
 use Rattle.search_spec.specs.Spine.{head_of, arguments, is_spine, same_head}
 use Rattle.search_spec.specs.State.{Setting}
-use Rattle.search_spec.specs.Alternatives.{Alternatives, imp_pos, imp_neg, bool_pos, bool_neg, fun_pos, fun_neg, differ}
 use Rattle.search_spec.proofs.SpineLaws.{spine_is, same_head_is, applied_whole}
 use Rattle.search_spec.proofs.TypedPartners.{head_function}
 use Rattle.search_spec.proofs.TypedProcessing.{spines_differ, other_arguments}

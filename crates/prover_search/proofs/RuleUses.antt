@@ -6,14 +6,13 @@ use Rattle.stt_core.specs.Lambda.{Constant, Lambda, constant, app, applied, ever
 use Rattle.stt_core.specs.Typing.{Scope, IsScope, constant_type, type_of}
 use Rattle.stt_core.specs.Canonical.{IsCanonical}
 use Rattle.tableau_calculus.specs.Literals.{Literal, plus, minus}
-use Rattle.tableau_calculus.specs.Rules.{all_pos_rule, mat_rule, con_rule, cho_rule, des_rule}
+use Rattle.tableau_calculus.specs.Rules.{all_pos_rule, mat_rule, con_rule, cho_rule, des_rule, Alternatives, all_pos, con, cho, des, differ}
 use Rattle.tableau_calculus.specs.declared.refutation.RuleUse.TheVariants.{AllPos, Mat, Con, Cho, Des}
 use Rattle.sat_base.specs.declared.literal.SatLit.{SatLit}
 use Rattle.search_spec.specs.Spine.{head_of, arguments}
 use Rattle.search_spec.specs.Mode.{standard_mode}
 use Rattle.search_spec.specs.Shallow.{is_shallow}
 use Rattle.search_spec.specs.State.{State, Setting}
-use Rattle.search_spec.specs.Alternatives.{Alternatives, all_pos, con, cho, des, differ}
 use Rattle.search_spec.specs.Instances.{with_instance}
 use Rattle.search_spec.specs.Commands.{with_confrontation, with_instantiation}
 use Rattle.search_spec.specs.TypedState.{Mates, Confronts, Instantiates}

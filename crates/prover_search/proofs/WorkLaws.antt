@@ -13,7 +13,7 @@ use Rattle.command_queue.specs.Queue.{Queue}
 use Rattle.mode_file.specs.declared.Mode.{Mode}
 use Rattle.search_spec.specs.Spine.{head_of, arguments, is_spine, same_head}
 use Rattle.search_spec.specs.State.{State, Setting, inst, with_commands, scope_in}
-use Rattle.search_spec.specs.Alternatives.{Alternatives, differ, fun_neg}
+use Rattle.tableau_calculus.specs.Rules.{Alternatives, differ, fun_neg}
 use Rattle.search_spec.specs.Instances.{with_instance}
 use Rattle.search_spec.specs.Partners.{matings, confrontations}
 use Rattle.search_spec.specs.Terms.{terms_of, with_term, with_terms}

@@ -7,7 +7,6 @@ pub use Rattle.sat_base.specs.Truth
 pub use Rattle.sat_core.specs.Solver
 pub use Rattle.sat_log.specs.Chains
 pub use Rattle.search_spec.specs.After
-pub use Rattle.search_spec.specs.Alternatives
 pub use Rattle.search_spec.specs.Commands
 pub use Rattle.search_spec.specs.Each
 pub use Rattle.search_spec.specs.Instances
@@ -26,6 +25,7 @@ pub use Rattle.stt_core.specs.TypedProblem
 pub use Rattle.stt_core.specs.Typing
 pub use Rattle.stt_core.specs.View
 pub use Rattle.tableau_calculus.specs.Literals
+pub use Rattle.tableau_calculus.specs.Rules
 pub use Rattle.tableau_calculus.specs.Start
 pub use Rattle.tableau_clauses.specs.Table
 pub use Rattle.tableau_rules.specs.Uses

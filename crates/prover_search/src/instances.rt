@@ -6,7 +6,7 @@ ghost use Rattle.witness_names.specs.Rows.{binder_of};
 ghost use Rattle.stt_core.specs.SimpleType.{predicate};
 ghost use Rattle.stt_core.specs.Canonical.{IsCanonical};
 ghost use Rattle.refute_print.specs.Sizes.{type_limit, type_depth, IsSmallTerm};
-ghost use Rattle.search_spec.specs.Alternatives.{cho, des};
+ghost use Rattle.tableau_calculus.specs.Rules.{cho, des};
 ghost use Rattle.search_spec.specs.Commands.{with_mating, with_confrontation, with_instantiation};
 ghost use Rattle.search_spec.specs.Instances.{with_instance};
 ghost use Rattle.search_spec.specs.TypedState.{Mates, Confronts, Instantiates};

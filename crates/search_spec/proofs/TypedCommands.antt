@@ -7,7 +7,7 @@ use Rattle.stt_core.specs.Typing.{Scope, IsScope, type_of}
 use Rattle.stt_core.specs.Canonical.{IsCanonical}
 use Rattle.tableau_calculus.specs.Literals.{Literal, IsLiteral, IsBranch}
 use Rattle.tableau_calculus.specs.Witnesses.{with_rows}
-use Rattle.tableau_calculus.specs.Rules.{all_pos_rule, mat_rule, con_rule, cho_rule, des_rule}
+use Rattle.tableau_calculus.specs.Rules.{all_pos_rule, mat_rule, con_rule, cho_rule, des_rule, Alternatives, all_pos, differ, con, cho, des}
 use Rattle.tableau_calculus.specs.declared.refutation.RuleUse.TheVariants.{AllPos, Mat, Con, Cho, Des}
 use Rattle.search_spec.specs.Each.{Each}
 use Rattle.search_spec.specs.Shallow.{is_shallow, is_shallow_literal}
@@ -16,7 +16,6 @@ use Rattle.search_spec.specs.Queue.{first_waiting, next_command}
 use Rattle.command_queue.specs.declared.entry.Entry.{Entry}
 use Rattle.command_queue.specs.Queue.{comes_before}
 use Rattle.search_spec.specs.State.{State, Setting, Command, process, mate, confront, inst, choose, describe, grow}
-use Rattle.search_spec.specs.Alternatives.{Alternatives, all_pos, differ, con, cho, des}
 use Rattle.search_spec.specs.Instances.{with_instance}
 use Rattle.search_spec.specs.Commands.{with_mating, with_confrontation, with_instantiation, with_command}
 use Rattle.search_spec.specs.After.{nothing_yet, starting_state, with_taken, after_command, next_state, state_after}

@@ -9,14 +9,13 @@ use Rattle.stt_core.specs.Canonical.{IsBase, IsCanonical}
 use Rattle.stt_core.proofs.TypeLaws.{same_type-true}
 use Rattle.tableau_calculus.specs.Literals.{Literal, plus, minus, IsLiteral, IsBranch}
 use Rattle.tableau_calculus.specs.Witnesses.{Row, with_rows}
-use Rattle.tableau_calculus.specs.Rules.{differ_each, bool_pos_rule, bool_neg_rule, fun_pos_rule, fun_neg_rule, dec_rule}
+use Rattle.tableau_calculus.specs.Rules.{differ_each, bool_pos_rule, bool_neg_rule, fun_pos_rule, fun_neg_rule, dec_rule, Alternatives, bool_pos, bool_neg, fun_pos, fun_neg, differ}
 use Rattle.tableau_calculus.specs.declared.refutation.RuleUse.TheVariants.{BoolPos, BoolNeg, FunPos, FunNeg, Dec}
 use Rattle.tableau_calculus.proofs.EquationLaws.{eq_canonical}
 use Rattle.tableau_calculus.proofs.FunctionLaws.{every_canonical}
 use Rattle.search_spec.specs.Each.{Each}
 use Rattle.search_spec.specs.Spine.{head_of, arguments, is_spine, same_head}
 use Rattle.search_spec.specs.State.{State, Setting, Typed, inst, with_commands}
-use Rattle.search_spec.specs.Alternatives.{Alternatives, bool_pos, bool_neg, fun_pos, fun_neg, differ}
 use Rattle.search_spec.specs.Instances.{with_instance}
 use Rattle.search_spec.specs.Terms.{terms_of, with_term, with_terms}
 use Rattle.search_spec.specs.Offers.{offers_terms, offered_sides}

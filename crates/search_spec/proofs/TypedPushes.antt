@@ -17,7 +17,7 @@ use Rattle.search_spec.specs.Clauses.{instance_clauses, with_clauses}
 use Rattle.search_spec.specs.Unsatisfiable.{Clause}
 use Rattle.search_spec.specs.Queue.{new_entries}
 use Rattle.search_spec.specs.State.{State, Setting, Typed, Command, process, inst, due, with_commands}
-use Rattle.search_spec.specs.Alternatives.{Alternatives}
+use Rattle.tableau_calculus.specs.Rules.{Alternatives}
 use Rattle.search_spec.specs.Instances.{with_literal, with_literals, with_instance}
 use Rattle.search_spec.specs.Terms.{terms_of, ranges_over, universals, with_term, with_terms, first_terms}
 use Rattle.search_spec.specs.TypedState.{IsTypedCommand, IsTypedStateWith}

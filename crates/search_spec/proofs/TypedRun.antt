@@ -12,13 +12,12 @@ use Rattle.stt_core.proofs.ListLaws.{mapped_get, slice_get-end}
 use Rattle.stt_core.proofs.TypeLaws.{constant_declared}
 use Rattle.tableau_calculus.specs.Literals.{Literal, plus, minus, IsLiteral, IsBranch}
 use Rattle.tableau_calculus.specs.Witnesses.{Row, with_rows, IsTable}
-use Rattle.tableau_calculus.specs.Rules.{imp_pos_rule, imp_neg_rule, all_neg_rule}
+use Rattle.tableau_calculus.specs.Rules.{imp_pos_rule, imp_neg_rule, all_neg_rule, imp_pos, imp_neg, all_neg}
 use Rattle.tableau_calculus.specs.declared.refutation.RuleUse.TheVariants.{ImpPos, ImpNeg, AllNeg}
 use Rattle.tableau_calculus.proofs.FunctionLaws.{every_canonical}
 use Rattle.search_spec.specs.Each.{Each}
 use Rattle.search_spec.specs.Partial.{Hole, first_hole}
 use Rattle.search_spec.specs.State.{State, Setting, grow, scope_in}
-use Rattle.search_spec.specs.Alternatives.{imp_pos, imp_neg, all_neg}
 use Rattle.search_spec.specs.Instances.{with_instance}
 use Rattle.search_spec.specs.Terms.{with_terms}
 use Rattle.search_spec.specs.Offers.{takes_witness, offered_witness}

@@ -8,7 +8,7 @@ use Rattle.search_spec.specs.Shallow.{is_shallow}
 use Rattle.search_spec.specs.Partial.{Hole, Partial, head, first_hole, with_filling, whole_term, with_holes}
 use Rattle.search_spec.specs.Spine.{head_of, arguments}
 use Rattle.search_spec.specs.State.{State, Setting, Sketch, Command, process, mate, confront, inst, choose, describe, grow, scope_in}
-use Rattle.search_spec.specs.Alternatives.{all_pos, differ, con, cho, des}
+use Rattle.tableau_calculus.specs.Rules.{all_pos, differ, con, cho, des}
 use Rattle.search_spec.specs.Instances.{with_instance}
 use Rattle.search_spec.specs.Terms.{with_term, with_opening}
 use Rattle.search_spec.specs.Processing.{with_processing}

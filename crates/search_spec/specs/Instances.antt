@@ -7,7 +7,7 @@ use Rattle.search_spec.specs.Shallow.{is_shallow_literal}
 use Rattle.search_spec.specs.Clauses.{instance_clauses, with_clauses}
 use Rattle.mode_file.specs.declared.Mode.{Mode}
 use Rattle.search_spec.specs.State.{State, process, with_commands}
-use Rattle.search_spec.specs.Alternatives.{Alternatives}
+use Rattle.tableau_calculus.specs.Rules.{Alternatives}
 
 -- the literal is seen and is to be processed, unless it was seen before
 abbrev pub with_literal : Mode → Literal → State → State

@@ -28,7 +28,6 @@ pub mod Queue
 pub mod Defaults
 pub mod State
 pub mod Spine
-pub mod Alternatives
 pub mod Instances
 pub mod Terms
 pub mod Offers

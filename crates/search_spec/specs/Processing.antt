@@ -7,7 +7,7 @@ use Rattle.stt_core.specs.SameTerm.{same_term}
 use Rattle.tableau_calculus.specs.Literals.{Literal, plus, minus}
 use Rattle.search_spec.specs.Spine.{head_of, arguments, is_spine, same_head}
 use Rattle.search_spec.specs.State.{State, Setting, inst, with_commands, scope_in}
-use Rattle.search_spec.specs.Alternatives.{imp_pos, imp_neg, bool_pos, bool_neg, fun_pos, fun_neg, differ}
+use Rattle.tableau_calculus.specs.Rules.{imp_pos, imp_neg, bool_pos, bool_neg, fun_pos, fun_neg, differ}
 use Rattle.search_spec.specs.Instances.{with_instance}
 use Rattle.search_spec.specs.Terms.{terms_of, with_term, with_terms}
 use Rattle.search_spec.specs.Offers.{offered_sides}

@@ -8,7 +8,7 @@ use Rattle.tableau_calculus.specs.Literals.{minus}
 use Rattle.tableau_calculus.specs.Witnesses.{Row}
 use Rattle.search_spec.specs.Partial.{Hole, first_hole}
 use Rattle.search_spec.specs.State.{State, Setting, Sketch, grow, with_commands}
-use Rattle.search_spec.specs.Alternatives.{all_neg}
+use Rattle.tableau_calculus.specs.Rules.{all_neg}
 use Rattle.search_spec.specs.Terms.{with_terms}
 use Rattle.search_spec.specs.Offers.{offered_witness}
 use Rattle.search_spec.specs.Instances.{with_instance}

@@ -4,7 +4,7 @@
 -- Analytic tableaux for higher-order logic with choice, 2011: quantifiers (here with any term, and with a witness for a new name), a choice
 -- as the head in mating and decomposition, choice. The rules for falsity and implication are this project's form of the rules for
 -- connectives there. A description as the head, the rule for descriptions, and the cut are this project's own.
-use Rattle.std.specs.Prelude.{◌≡◌, ℕ, suc, List, [], ◌∷◌, Some, slice_get}
+use Rattle.std.specs.Prelude.{◌≡◌, ℕ, suc, List, [], ◌∷◌, Option, Some, None, slice_get}
 use Rattle.stt_core.specs.SimpleType.{SimpleType, base, arrow, formula, predicate}
 use Rattle.stt_core.specs.Lambda.{Constant, name, witness, falsity, negation, implication, all, equality, choice, description, Lambda, bound, constant, lam, app, neg, imp, eq, every, applied}
 use Rattle.stt_core.specs.Typing.{Scope, constant_type}
@@ -67,25 +67,93 @@ differ_each (arrow a b) [] ts = []
 differ_each (arrow a b) (s ∷ ss) [] = []
 differ_each (arrow a b) (s ∷ ss) (t ∷ ts) = (minus (eq a s t) ∷ []) ∷ differ_each b ss ts
 
+-- The alternatives of the rules, by the parts of their principals.
+abbrev pub Alternatives : Type 0
+Alternatives = List (List Literal)
+
+abbrev pub imp_pos : Lambda → Lambda → Alternatives
+imp_pos s t = (opposite (as_literal s) ∷ []) ∷ (as_literal t ∷ []) ∷ []
+
+abbrev pub imp_neg : Lambda → Lambda → Alternatives
+imp_neg s t = (as_literal s ∷ opposite (as_literal t) ∷ []) ∷ []
+
+abbrev pub bool_pos : Lambda → Lambda → Alternatives
+bool_pos s t = (as_literal s ∷ as_literal t ∷ []) ∷ (opposite (as_literal s) ∷ opposite (as_literal t) ∷ []) ∷ []
+
+abbrev pub bool_neg : Lambda → Lambda → Alternatives
+bool_neg s t = (as_literal s ∷ opposite (as_literal t) ∷ []) ∷ (opposite (as_literal s) ∷ as_literal t ∷ []) ∷ []
+
+abbrev pub fun_pos : SimpleType → SimpleType → Lambda → Lambda → Alternatives
+fun_pos a b s t = (as_literal (agreement a b s t) ∷ []) ∷ []
+
+abbrev pub fun_neg : SimpleType → SimpleType → Lambda → Lambda → Alternatives
+fun_neg a b s t = (opposite (as_literal (agreement a b s t)) ∷ []) ∷ []
+
+abbrev pub all_pos : Lambda → Lambda → Alternatives
+all_pos f u = (as_literal (apply f u) ∷ []) ∷ []
+
+abbrev pub all_neg : SimpleType → Lambda → Lambda → Alternatives
+all_neg a f w = (opposite (as_literal (apply f (eta a w))) ∷ []) ∷ []
+
+-- the arguments of a head of this type differ somewhere
+abbrev pub differ : Option SimpleType → List Lambda → List Lambda → Alternatives
+differ (Some a) ss ts = differ_each a ss ts
+differ None ss ts = []
+
+abbrev pub con : SimpleType → Lambda → Lambda → Lambda → Lambda → Alternatives
+con b s t u v = (minus (eq b s u) ∷ minus (eq b t u) ∷ []) ∷ (minus (eq b s v) ∷ minus (eq b t v) ∷ []) ∷ []
+
+abbrev pub cho : SimpleType → Lambda → Alternatives
+cho a f = (as_literal (nowhere a f) ∷ []) ∷ (as_literal (apply f (chosen a f)) ∷ []) ∷ []
+
+abbrev pub des : SimpleType → Lambda → Alternatives
+des a f =
+    (as_literal (nowhere a f) ∷ [])
+    ∷ (opposite (as_literal (at_most_once a f)) ∷ [])
+    ∷ (as_literal (apply f (described a f)) ∷ [])
+    ∷ []
+
 -- The table: a rule with what it takes, its principals, and its alternatives. A branch that holds the principals is met only by models
 -- that meet a whole alternative too. A base type whose number is a successor is one other than that of formulas.
 pub data Rule (scope : Scope) (rows : List Row) : RuleUse → List Literal → List (List Literal) → Type 0 where
   false_rule : (i : ℕ) → Rule scope rows (False i) (plus (constant falsity) ∷ []) []
   close_rule : (i j : ℕ) (l : Literal) → Rule scope rows (Close i j) (l ∷ opposite l ∷ []) []
   refl_rule : (i : ℕ) (a : SimpleType) (s : Lambda) → Rule scope rows (Refl i) (minus (eq a s s) ∷ []) []
-  imp_pos_rule : (i : ℕ) (s t : Lambda) → Rule scope rows (ImpPos i) (plus (imp s t) ∷ []) ((opposite (as_literal s) ∷ []) ∷ (as_literal t ∷ []) ∷ [])
-  imp_neg_rule : (i : ℕ) (s t : Lambda) → Rule scope rows (ImpNeg i) (minus (imp s t) ∷ []) ((as_literal s ∷ opposite (as_literal t) ∷ []) ∷ [])
-  bool_pos_rule : (i : ℕ) (s t : Lambda) → Rule scope rows (BoolPos i) (plus (eq formula s t) ∷ []) ((as_literal s ∷ as_literal t ∷ []) ∷ (opposite (as_literal s) ∷ opposite (as_literal t) ∷ []) ∷ [])
-  bool_neg_rule : (i : ℕ) (s t : Lambda) → Rule scope rows (BoolNeg i) (minus (eq formula s t) ∷ []) ((as_literal s ∷ opposite (as_literal t) ∷ []) ∷ (opposite (as_literal s) ∷ as_literal t ∷ []) ∷ [])
-  fun_pos_rule : (i : ℕ) (a b : SimpleType) (s t : Lambda) → Rule scope rows (FunPos i) (plus (eq (arrow a b) s t) ∷ []) ((as_literal (agreement a b s t) ∷ []) ∷ [])
-  fun_neg_rule : (i : ℕ) (a b : SimpleType) (s t : Lambda) → Rule scope rows (FunNeg i) (minus (eq (arrow a b) s t) ∷ []) ((opposite (as_literal (agreement a b s t)) ∷ []) ∷ [])
-  all_pos_rule : (i : ℕ) (a : SimpleType) (f u : Lambda) → IsCanonical scope [] a u → Rule scope rows (AllPos i u) (plus (every a f) ∷ []) ((as_literal (apply f u) ∷ []) ∷ [])
-  all_neg_rule : (i k : ℕ) (a : SimpleType) (f : Lambda) → slice_get rows k ≡ Some (record { type = a; predicate = f }) → Rule scope rows (AllNeg i) (minus (every a f) ∷ []) ((opposite (as_literal (apply f (eta a (constant (witness k))))) ∷ []) ∷ [])
-  mat_rule : (i j : ℕ) (c : Constant) (a : SimpleType) (s t : Lambda) (ss ts : List Lambda) → IsDecomposed c → constant_type scope c ≡ Some a → Rule scope rows (Mat i j) (plus (applied (constant c) (s ∷ ss)) ∷ minus (applied (constant c) (t ∷ ts)) ∷ []) (differ_each a (s ∷ ss) (t ∷ ts))
-  dec_rule : (i n : ℕ) (c : Constant) (a : SimpleType) (s t : Lambda) (ss ts : List Lambda) → IsDecomposed c → constant_type scope c ≡ Some a → Rule scope rows (Dec i) (minus (eq (base (suc n)) (applied (constant c) (s ∷ ss)) (applied (constant c) (t ∷ ts))) ∷ []) (differ_each a (s ∷ ss) (t ∷ ts))
-  con_rule : (i j n : ℕ) (s t u v : Lambda) → Rule scope rows (Con i j) (plus (eq (base (suc n)) s t) ∷ minus (eq (base (suc n)) u v) ∷ []) ((minus (eq (base (suc n)) s u) ∷ minus (eq (base (suc n)) t u) ∷ []) ∷ (minus (eq (base (suc n)) s v) ∷ minus (eq (base (suc n)) t v) ∷ []) ∷ [])
-  cho_rule : (a : SimpleType) (f : Lambda) → IsCanonical scope [] (predicate a) f → Rule scope rows (Cho f) [] ((as_literal (nowhere a f) ∷ []) ∷ (as_literal (apply f (chosen a f)) ∷ []) ∷ [])
-  des_rule : (a : SimpleType) (f : Lambda) → IsCanonical scope [] (predicate a) f → Rule scope rows (Des f) [] ((as_literal (nowhere a f) ∷ []) ∷ (opposite (as_literal (at_most_once a f)) ∷ []) ∷ (as_literal (apply f (described a f)) ∷ []) ∷ [])
+  imp_pos_rule : (i : ℕ) (s t : Lambda) → Rule scope rows (ImpPos i) (plus (imp s t) ∷ []) (imp_pos s t)
+  imp_neg_rule : (i : ℕ) (s t : Lambda) → Rule scope rows (ImpNeg i) (minus (imp s t) ∷ []) (imp_neg s t)
+  bool_pos_rule : (i : ℕ) (s t : Lambda) → Rule scope rows (BoolPos i) (plus (eq formula s t) ∷ []) (bool_pos s t)
+  bool_neg_rule : (i : ℕ) (s t : Lambda) → Rule scope rows (BoolNeg i) (minus (eq formula s t) ∷ []) (bool_neg s t)
+  fun_pos_rule :
+      (i : ℕ) (a b : SimpleType) (s t : Lambda)
+      → Rule scope rows (FunPos i) (plus (eq (arrow a b) s t) ∷ []) (fun_pos a b s t)
+  fun_neg_rule :
+      (i : ℕ) (a b : SimpleType) (s t : Lambda)
+      → Rule scope rows (FunNeg i) (minus (eq (arrow a b) s t) ∷ []) (fun_neg a b s t)
+  all_pos_rule :
+      (i : ℕ) (a : SimpleType) (f u : Lambda)
+      → IsCanonical scope [] a u
+      → Rule scope rows (AllPos i u) (plus (every a f) ∷ []) (all_pos f u)
+  all_neg_rule :
+      (i k : ℕ) (a : SimpleType) (f : Lambda)
+      → slice_get rows k ≡ Some (record { type = a; predicate = f })
+      → Rule scope rows (AllNeg i) (minus (every a f) ∷ []) (all_neg a f (constant (witness k)))
+  mat_rule :
+      (i j : ℕ) (c : Constant) (a : SimpleType) (s t : Lambda) (ss ts : List Lambda)
+      → IsDecomposed c
+      → constant_type scope c ≡ Some a
+      → Rule scope rows (Mat i j) (plus (applied (constant c) (s ∷ ss)) ∷ minus (applied (constant c) (t ∷ ts)) ∷ [])
+      (differ_each a (s ∷ ss) (t ∷ ts))
+  dec_rule :
+      (i n : ℕ) (c : Constant) (a : SimpleType) (s t : Lambda) (ss ts : List Lambda)
+      → IsDecomposed c
+      → constant_type scope c ≡ Some a
+      → Rule scope rows (Dec i) (minus (eq (base (suc n)) (applied (constant c) (s ∷ ss)) (applied (constant c) (t ∷ ts))) ∷ [])
+      (differ_each a (s ∷ ss) (t ∷ ts))
+  con_rule :
+      (i j n : ℕ) (s t u v : Lambda)
+      → Rule scope rows (Con i j) (plus (eq (base (suc n)) s t) ∷ minus (eq (base (suc n)) u v) ∷ []) (con (base (suc n)) s t u v)
+  cho_rule : (a : SimpleType) (f : Lambda) → IsCanonical scope [] (predicate a) f → Rule scope rows (Cho f) [] (cho a f)
+  des_rule : (a : SimpleType) (f : Lambda) → IsCanonical scope [] (predicate a) f → Rule scope rows (Des f) [] (des a f)
   cut_rule : (l : Literal) → IsLiteral scope l → Rule scope rows (Cut l) [] ((l ∷ []) ∷ (opposite l ∷ []) ∷ [])
 
 -- the places of the principals in the branch

@@ -21,7 +21,7 @@ use Rattle.command_queue.specs.Queue.{comes_before}
 use Rattle.search_spec.specs.Closed.{is_closed}
 use Rattle.search_spec.specs.State.{State, Setting, Typed, Sketch, Command, process, mate, confront, inst, choose, describe, grow, due, with_commands, scope_in}
 use Rattle.search_spec.specs.Spine.{head_of, arguments, is_spine, same_head}
-use Rattle.search_spec.specs.Alternatives.{Alternatives, imp_pos, imp_neg, bool_pos, bool_neg, fun_pos, fun_neg, all_pos, all_neg, differ, con, cho, des}
+use Rattle.tableau_calculus.specs.Rules.{Alternatives, imp_pos, imp_neg, bool_pos, bool_neg, fun_pos, fun_neg, all_pos, all_neg, differ, con, cho, des}
 use Rattle.search_spec.specs.Instances.{with_literal, with_literals, with_instance}
 use Rattle.search_spec.specs.Terms.{terms_of, ranges_over, universals, with_term, with_terms, first_terms, with_opening}
 use Rattle.search_spec.specs.Offers.{is_prepared, early_terms, offered_witness, offered_sides}

@@ -19,7 +19,7 @@ use Rattle.search_spec.specs.Clauses.{instance_clauses, with_clauses}
 use Rattle.search_spec.specs.Queue.{new_entries}
 use Rattle.search_spec.specs.State.{State, Setting, Typed, Sketch, Command, process, mate, confront, inst, choose, describe, grow, due, with_commands, scope_in}
 use Rattle.search_spec.specs.Spine.{head_of, has_compared_head, same_head}
-use Rattle.search_spec.specs.Alternatives.{Alternatives}
+use Rattle.tableau_calculus.specs.Rules.{Alternatives}
 use Rattle.search_spec.specs.Instances.{with_literal, with_literals, with_instance}
 use Rattle.search_spec.specs.Heads.{places_to, bases_from, logical_heads, heads_for}
 use Rattle.search_spec.specs.Partial.{Partial, hole, head, function, application, Hole, or_else, first_hole, in_first, with_filling, whole_term, blank_partial, with_holes}

@@ -6,10 +6,9 @@ use Rattle.stt_core.specs.Typing.{Scope, constant_type, type_of}
 use Rattle.stt_core.specs.Lift.{lift}
 use Rattle.normal_forms.specs.Normal.{Way, eta, later, by_first, ways_at, ways_of, put, replace, apply_by, ways, apply}
 use Rattle.tableau_calculus.specs.Literals.{as_literal}
-use Rattle.tableau_calculus.specs.Rules.{at_new, agreement, nowhere, chosen, at_most_once, described, differ_each}
+use Rattle.tableau_calculus.specs.Rules.{at_new, agreement, nowhere, chosen, at_most_once, described, differ_each, Alternatives, imp_pos, imp_neg, bool_pos, bool_neg, fun_pos, fun_neg, all_pos, all_neg, differ, con, cho, des}
 use Rattle.search_spec.specs.Each.{Each}
 use Rattle.search_spec.specs.Spine.{head_of, arguments, is_compared, has_compared_head}
-use Rattle.search_spec.specs.Alternatives.{Alternatives, imp_pos, imp_neg, bool_pos, bool_neg, fun_pos, fun_neg, all_pos, all_neg, differ, con, cho, des}
 use Rattle.search_spec.proofs.NamingLaws.{each-joined}
 use Rattle.type_bound.specs.Types.{IsShallowType}
 use Rattle.refute_print.specs.Sizes.{nesting}

@@ -2,7 +2,7 @@ use Rattle.std.proofs.Common.{suc, [], ◌∷◌, refl, sym, ap, ◌∙◌, subs
 use Rattle.stt_core.specs.SimpleType.{base}
 use Rattle.stt_core.specs.Typing.{IsScope, type_of}
 use Rattle.tableau_calculus.specs.Literals.{Literal}
-use Rattle.search_spec.specs.Alternatives.{Alternatives, differ}
+use Rattle.tableau_calculus.specs.Rules.{Alternatives, differ}
 use Rattle.search_spec.specs.Instances.{with_instance}
 use Rattle.search_spec.specs.Spine.{head_of, arguments}
 use Rattle.term_bank.specs.Terms.{term_at}

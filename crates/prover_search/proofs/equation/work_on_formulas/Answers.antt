@@ -4,7 +4,7 @@ use Rattle.stt_core.specs.Lambda.{eq}
 use Rattle.tableau_calculus.specs.Literals.{Literal, plus, minus}
 use Rattle.literal_map.specs.Atoms.{bank_literal}
 use Rattle.prover_state.specs.Internal.Standing.{setting_by, the_state}
-use Rattle.search_spec.specs.Alternatives.{bool_pos, bool_neg}
+use Rattle.tableau_calculus.specs.Rules.{bool_pos, bool_neg}
 use Rattle.prover_search.specs.declared.shape.Shape.TheVariants.{FormulaEquation}
 use Rattle.prover_search.proofs.ShapedLaws.{shaped-as}
 use Rattle.prover_search.proofs.AloneUses.{bool_pos-takes, bool_neg-takes}

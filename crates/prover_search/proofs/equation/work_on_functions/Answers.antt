@@ -4,7 +4,7 @@ use Rattle.stt_core.specs.Lambda.{eq}
 use Rattle.tableau_calculus.specs.Literals.{Literal, plus}
 use Rattle.literal_map.specs.Atoms.{bank_literal}
 use Rattle.prover_state.specs.Internal.Standing.{setting_by, the_state}
-use Rattle.search_spec.specs.Alternatives.{fun_pos}
+use Rattle.tableau_calculus.specs.Rules.{fun_pos}
 use Rattle.prover_search.specs.declared.shape.Shape.TheVariants.{FunctionEquation}
 use Rattle.prover_search.proofs.ShapedLaws.{shaped-as}
 use Rattle.prover_search.proofs.AloneUses.{fun_pos-takes}

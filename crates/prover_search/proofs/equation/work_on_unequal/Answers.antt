@@ -5,7 +5,7 @@ use Rattle.tableau_calculus.specs.Literals.{Literal}
 use Rattle.literal_map.specs.Atoms.{bank_literal}
 use Rattle.prover_state.specs.declared.tables.Basis.{Basis}
 use Rattle.prover_state.specs.declared.tables.Tables.{Tables}
-use Rattle.search_spec.specs.Alternatives.{fun_neg}
+use Rattle.tableau_calculus.specs.Rules.{fun_neg}
 use Rattle.prover_search.specs.declared.shape.Shape.TheVariants.{FunctionEquation}
 use Rattle.prover_search.proofs.AloneUses.{fun_neg-takes}
 use Rattle.prover_search.proofs.DevelopLaws.{develops-same, develops-then}

@@ -3,7 +3,7 @@ use Rattle.stt_core.specs.Lambda.{imp}
 use Rattle.tableau_calculus.specs.Literals.{Literal, plus, minus}
 use Rattle.literal_map.specs.Atoms.{bank_literal}
 use Rattle.prover_state.specs.Internal.Standing.{setting_by, the_state}
-use Rattle.search_spec.specs.Alternatives.{imp_pos, imp_neg}
+use Rattle.tableau_calculus.specs.Rules.{imp_pos, imp_neg}
 use Rattle.prover_search.specs.declared.shape.Shape.TheVariants.{Implication}
 use Rattle.prover_search.proofs.ShapedLaws.{shaped-as}
 use Rattle.prover_search.proofs.AloneUses.{imp_pos-takes, imp_neg-takes}
