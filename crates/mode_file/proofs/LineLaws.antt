@@ -4,7 +4,7 @@ use Rattle.std.specs.Str.{bytes_eq}
 use Rattle.std.specs.List.{find}
 use Rattle.std.proofs.lemmas.Slice.Eq.{bytes_eq-Decides}
 use Rattle.mode_file.specs.declared.keys.Key.{Key}
-use Rattle.mode_file.specs.declared.keys.Key.TheVariants.{Process, Mate, Confront, Inst, Choose, Grow, Clock, Terms, Defaults, Commands, Conflicts}
+use Rattle.mode_file.specs.declared.keys.Key.TheVariants.{Process, Mate, Confront, Inst, Choose, Grow, Clock, Terms, Defaults, Names, Commands, Conflicts}
 use Rattle.mode_file.specs.Keys.{keys, key_name, greatest, key_of}
 use Rattle.mode_file.specs.Internal.Fronts.{is_in}
 use Rattle.outside.specs.Fronts.{behind_front}
@@ -32,6 +32,7 @@ begins Grow rest = record { word = refl; behind = refl; says = refl; named = ref
 begins Clock rest = record { word = refl; behind = refl; says = refl; named = refl }
 begins Terms rest = record { word = refl; behind = refl; says = refl; named = refl }
 begins Defaults rest = record { word = refl; behind = refl; says = refl; named = refl }
+begins Names rest = record { word = refl; behind = refl; says = refl; named = refl }
 begins Commands rest = record { word = refl; behind = refl; says = refl; named = refl }
 begins Conflicts rest = record { word = refl; behind = refl; says = refl; named = refl }
 
@@ -57,6 +58,7 @@ greatest_fits Grow = lit< tt
 greatest_fits Clock = lit< tt
 greatest_fits Terms = lit< tt
 greatest_fits Defaults = lit< tt
+greatest_fits Names = lit< tt
 greatest_fits Commands = lit< tt
 greatest_fits Conflicts = lit< tt
 

@@ -2,7 +2,7 @@
 use Rattle.std.proofs.Common.{inl, inr, ℕ, ◌≤◌, List, [], ◌∷◌, Option, Some, None, IfSome, unwrap_or, sym, subst, lit≤}
 use Rattle.mode_file.specs.declared.given.Given.{Given}
 use Rattle.mode_file.specs.declared.keys.Key.{Key}
-use Rattle.mode_file.specs.declared.keys.Key.TheVariants.{Process, Mate, Confront, Inst, Choose, Grow, Clock, Terms, Defaults, Commands, Conflicts}
+use Rattle.mode_file.specs.declared.keys.Key.TheVariants.{Process, Mate, Confront, Inst, Choose, Grow, Clock, Terms, Defaults, Names, Commands, Conflicts}
 use Rattle.mode_file.specs.Keys.{standard_number, greatest}
 use Rattle.mode_file.specs.Given.{nothing_given, with_number, mode_of, IsInRange}
 use Rattle.mode_file.specs.Grammar.{IsGoodLine, AreGoodLines}
@@ -18,21 +18,23 @@ record AreInRange (given : Given) : Type 0 where
   clock : IfSome given.clock (λ n. n ≤ greatest Clock)
   terms : IfSome given.terms (λ n. n ≤ greatest Terms)
   defaults : IfSome given.defaults (λ n. n ≤ greatest Defaults)
+  names : IfSome given.names (λ n. n ≤ greatest Names)
   commands : IfSome given.commands (λ n. n ≤ greatest Commands)
   conflicts : IfSome given.conflicts (λ n. n ≤ greatest Conflicts)
 
 one_more : (given : Given) (key : Key) (n : ℕ) → AreInRange given → n ≤ greatest key → AreInRange (with_number given key n)
-one_more given Process n h within = record { process = within; mate = h.mate; confront = h.confront; inst = h.inst; choose = h.choose; grow = h.grow; clock = h.clock; terms = h.terms; defaults = h.defaults; commands = h.commands; conflicts = h.conflicts }
-one_more given Mate n h within = record { process = h.process; mate = within; confront = h.confront; inst = h.inst; choose = h.choose; grow = h.grow; clock = h.clock; terms = h.terms; defaults = h.defaults; commands = h.commands; conflicts = h.conflicts }
-one_more given Confront n h within = record { process = h.process; mate = h.mate; confront = within; inst = h.inst; choose = h.choose; grow = h.grow; clock = h.clock; terms = h.terms; defaults = h.defaults; commands = h.commands; conflicts = h.conflicts }
-one_more given Inst n h within = record { process = h.process; mate = h.mate; confront = h.confront; inst = within; choose = h.choose; grow = h.grow; clock = h.clock; terms = h.terms; defaults = h.defaults; commands = h.commands; conflicts = h.conflicts }
-one_more given Choose n h within = record { process = h.process; mate = h.mate; confront = h.confront; inst = h.inst; choose = within; grow = h.grow; clock = h.clock; terms = h.terms; defaults = h.defaults; commands = h.commands; conflicts = h.conflicts }
-one_more given Grow n h within = record { process = h.process; mate = h.mate; confront = h.confront; inst = h.inst; choose = h.choose; grow = within; clock = h.clock; terms = h.terms; defaults = h.defaults; commands = h.commands; conflicts = h.conflicts }
-one_more given Clock n h within = record { process = h.process; mate = h.mate; confront = h.confront; inst = h.inst; choose = h.choose; grow = h.grow; clock = within; terms = h.terms; defaults = h.defaults; commands = h.commands; conflicts = h.conflicts }
-one_more given Terms n h within = record { process = h.process; mate = h.mate; confront = h.confront; inst = h.inst; choose = h.choose; grow = h.grow; clock = h.clock; terms = within; defaults = h.defaults; commands = h.commands; conflicts = h.conflicts }
-one_more given Defaults n h within = record { process = h.process; mate = h.mate; confront = h.confront; inst = h.inst; choose = h.choose; grow = h.grow; clock = h.clock; terms = h.terms; defaults = within; commands = h.commands; conflicts = h.conflicts }
-one_more given Commands n h within = record { process = h.process; mate = h.mate; confront = h.confront; inst = h.inst; choose = h.choose; grow = h.grow; clock = h.clock; terms = h.terms; defaults = h.defaults; commands = within; conflicts = h.conflicts }
-one_more given Conflicts n h within = record { process = h.process; mate = h.mate; confront = h.confront; inst = h.inst; choose = h.choose; grow = h.grow; clock = h.clock; terms = h.terms; defaults = h.defaults; commands = h.commands; conflicts = within }
+one_more given Process n h within = record { process = within; mate = h.mate; confront = h.confront; inst = h.inst; choose = h.choose; grow = h.grow; clock = h.clock; terms = h.terms; defaults = h.defaults; names = h.names; commands = h.commands; conflicts = h.conflicts }
+one_more given Mate n h within = record { process = h.process; mate = within; confront = h.confront; inst = h.inst; choose = h.choose; grow = h.grow; clock = h.clock; terms = h.terms; defaults = h.defaults; names = h.names; commands = h.commands; conflicts = h.conflicts }
+one_more given Confront n h within = record { process = h.process; mate = h.mate; confront = within; inst = h.inst; choose = h.choose; grow = h.grow; clock = h.clock; terms = h.terms; defaults = h.defaults; names = h.names; commands = h.commands; conflicts = h.conflicts }
+one_more given Inst n h within = record { process = h.process; mate = h.mate; confront = h.confront; inst = within; choose = h.choose; grow = h.grow; clock = h.clock; terms = h.terms; defaults = h.defaults; names = h.names; commands = h.commands; conflicts = h.conflicts }
+one_more given Choose n h within = record { process = h.process; mate = h.mate; confront = h.confront; inst = h.inst; choose = within; grow = h.grow; clock = h.clock; terms = h.terms; defaults = h.defaults; names = h.names; commands = h.commands; conflicts = h.conflicts }
+one_more given Grow n h within = record { process = h.process; mate = h.mate; confront = h.confront; inst = h.inst; choose = h.choose; grow = within; clock = h.clock; terms = h.terms; defaults = h.defaults; names = h.names; commands = h.commands; conflicts = h.conflicts }
+one_more given Clock n h within = record { process = h.process; mate = h.mate; confront = h.confront; inst = h.inst; choose = h.choose; grow = h.grow; clock = within; terms = h.terms; defaults = h.defaults; names = h.names; commands = h.commands; conflicts = h.conflicts }
+one_more given Terms n h within = record { process = h.process; mate = h.mate; confront = h.confront; inst = h.inst; choose = h.choose; grow = h.grow; clock = h.clock; terms = within; defaults = h.defaults; names = h.names; commands = h.commands; conflicts = h.conflicts }
+one_more given Defaults n h within = record { process = h.process; mate = h.mate; confront = h.confront; inst = h.inst; choose = h.choose; grow = h.grow; clock = h.clock; terms = h.terms; defaults = within; names = h.names; commands = h.commands; conflicts = h.conflicts }
+one_more given Names n h within = record { process = h.process; mate = h.mate; confront = h.confront; inst = h.inst; choose = h.choose; grow = h.grow; clock = h.clock; terms = h.terms; defaults = h.defaults; names = within; commands = h.commands; conflicts = h.conflicts }
+one_more given Commands n h within = record { process = h.process; mate = h.mate; confront = h.confront; inst = h.inst; choose = h.choose; grow = h.grow; clock = h.clock; terms = h.terms; defaults = h.defaults; names = h.names; commands = within; conflicts = h.conflicts }
+one_more given Conflicts n h within = record { process = h.process; mate = h.mate; confront = h.confront; inst = h.inst; choose = h.choose; grow = h.grow; clock = h.clock; terms = h.terms; defaults = h.defaults; names = h.names; commands = h.commands; conflicts = within }
 
 good_line : (before : Given) (line : List ℕ) (after : Given) → IsGoodLine before line after → AreInRange before → AreInRange after
 good_line before line after (inl g) h = subst AreInRange (sym g.1) h
@@ -43,7 +45,7 @@ good_lines [] before after g h = subst AreInRange (sym g) h
 good_lines (l ∷ ls) before after g h = good_lines ls g.0 after g.1.1 (good_line before l g.0 g.1.0 h)
 
 none : AreInRange nothing_given
-none = record { process = tt; mate = tt; confront = tt; inst = tt; choose = tt; grow = tt; clock = tt; terms = tt; defaults = tt; commands = tt; conflicts = tt }
+none = record { process = tt; mate = tt; confront = tt; inst = tt; choose = tt; grow = tt; clock = tt; terms = tt; defaults = tt; names = tt; commands = tt; conflicts = tt }
 
 unwrap_or-within : (o : Option ℕ) (other limit : ℕ) → IfSome o (λ n. n ≤ limit) → other ≤ limit → unwrap_or o other ≤ limit
 unwrap_or-within None other limit h k = k
@@ -62,6 +64,7 @@ mode_in_range lines given g =
       clock = unwrap_or-within given.clock (standard_number Clock) (greatest Clock) h.clock (lit≤ tt);
       terms = unwrap_or-within given.terms (standard_number Terms) (greatest Terms) h.terms (lit≤ tt);
       defaults = unwrap_or-within given.defaults (standard_number Defaults) (greatest Defaults) h.defaults (lit≤ tt);
+      names = unwrap_or-within given.names (standard_number Names) (greatest Names) h.names (lit≤ tt);
       commands = unwrap_or-within given.commands (standard_number Commands) (greatest Commands) h.commands (lit≤ tt);
       conflicts = unwrap_or-within given.conflicts (standard_number Conflicts) (greatest Conflicts) h.conflicts (lit≤ tt);
     }

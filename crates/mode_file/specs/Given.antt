@@ -3,7 +3,7 @@ use Rattle.std.specs.Prelude.{ℕ, ◌≤◌, Option, Some, None, unwrap_or}
 use Rattle.mode_file.specs.declared.Mode.{Mode}
 use Rattle.mode_file.specs.declared.given.Given.{Given}
 use Rattle.mode_file.specs.declared.keys.Key.{Key}
-use Rattle.mode_file.specs.declared.keys.Key.TheVariants.{Process, Mate, Confront, Inst, Choose, Grow, Clock, Terms, Defaults, Commands, Conflicts}
+use Rattle.mode_file.specs.declared.keys.Key.TheVariants.{Process, Mate, Confront, Inst, Choose, Grow, Clock, Terms, Defaults, Names, Commands, Conflicts}
 use Rattle.mode_file.specs.Keys.{standard_number, greatest}
 
 abbrev pub nothing_given : Given
@@ -17,6 +17,7 @@ nothing_given = record {
   clock = None;
   terms = None;
   defaults = None;
+  names = None;
   commands = None;
   conflicts = None;
 }
@@ -31,6 +32,7 @@ number_given given Grow = given.grow
 number_given given Clock = given.clock
 number_given given Terms = given.terms
 number_given given Defaults = given.defaults
+number_given given Names = given.names
 number_given given Commands = given.commands
 number_given given Conflicts = given.conflicts
 
@@ -45,6 +47,7 @@ with_number given Grow n = record given { grow = Some n }
 with_number given Clock n = record given { clock = Some n }
 with_number given Terms n = record given { terms = Some n }
 with_number given Defaults n = record given { defaults = Some n }
+with_number given Names n = record given { names = Some n }
 with_number given Commands n = record given { commands = Some n }
 with_number given Conflicts n = record given { conflicts = Some n }
 
@@ -60,6 +63,7 @@ mode_of given = record {
   clock = unwrap_or given.clock (standard_number Clock);
   terms = unwrap_or given.terms (standard_number Terms);
   defaults = unwrap_or given.defaults (standard_number Defaults);
+  names = unwrap_or given.names (standard_number Names);
   commands = unwrap_or given.commands (standard_number Commands);
   conflicts = unwrap_or given.conflicts (standard_number Conflicts);
 }
@@ -75,5 +79,6 @@ pub record IsInRange (mode : Mode) : Type 0 where
   pub clock : mode.clock ≤ greatest Clock
   pub terms : mode.terms ≤ greatest Terms
   pub defaults : mode.defaults ≤ greatest Defaults
+  pub names : mode.names ≤ greatest Names
   pub commands : mode.commands ≤ greatest Commands
   pub conflicts : mode.conflicts ≤ greatest Conflicts

@@ -2,10 +2,10 @@
 use Rattle.std.specs.Prelude.{ℕ, List, [], ◌∷◌, codes, Option, find}
 use Rattle.std.specs.Str.{bytes_eq}
 use Rattle.mode_file.specs.declared.keys.Key.{Key}
-use Rattle.mode_file.specs.declared.keys.Key.TheVariants.{Process, Mate, Confront, Inst, Choose, Grow, Clock, Terms, Defaults, Commands, Conflicts}
+use Rattle.mode_file.specs.declared.keys.Key.TheVariants.{Process, Mate, Confront, Inst, Choose, Grow, Clock, Terms, Defaults, Names, Commands, Conflicts}
 
 abbrev pub keys : List Key
-keys = Process ∷ Mate ∷ Confront ∷ Inst ∷ Choose ∷ Grow ∷ Clock ∷ Terms ∷ Defaults ∷ Commands ∷ Conflicts ∷ []
+keys = Process ∷ Mate ∷ Confront ∷ Inst ∷ Choose ∷ Grow ∷ Clock ∷ Terms ∷ Defaults ∷ Names ∷ Commands ∷ Conflicts ∷ []
 
 abbrev pub key_name : Key → List ℕ
 key_name Process = codes "process"
@@ -17,6 +17,7 @@ key_name Grow = codes "grow"
 key_name Clock = codes "clock"
 key_name Terms = codes "terms"
 key_name Defaults = codes "defaults"
+key_name Names = codes "names"
 key_name Commands = codes "commands"
 key_name Conflicts = codes "conflicts"
 
@@ -30,6 +31,7 @@ standard_number Grow = 4
 standard_number Clock = 0
 standard_number Terms = 0
 standard_number Defaults = 0
+standard_number Names = 0
 standard_number Commands = 20000
 standard_number Conflicts = 1000000
 
@@ -43,6 +45,7 @@ greatest Grow = 1000
 greatest Clock = 1
 greatest Terms = 1
 greatest Defaults = 1000
+greatest Names = 1
 greatest Commands = 1000000
 greatest Conflicts = 1000000000000
 

@@ -18,6 +18,7 @@ pub(crate) struct Given {
     clock: Option<u32>,
     terms: Option<u32>,
     defaults: Option<u32>,
+    names: Option<u32>,
     commands: Option<u32>,
     conflicts: Option<u64>,
 }
@@ -36,6 +37,7 @@ impl Given {
             clock: None,
             terms: None,
             defaults: None,
+            names: None,
             commands: None,
             conflicts: None,
         }
@@ -55,6 +57,7 @@ impl Given {
             Key::Clock => self.clock.is_some(),
             Key::Terms => self.terms.is_some(),
             Key::Defaults => self.defaults.is_some(),
+            Key::Names => self.names.is_some(),
             Key::Commands => self.commands.is_some(),
             Key::Conflicts => self.conflicts.is_some(),
         }
@@ -74,6 +77,7 @@ impl Given {
             Key::Clock => self.clock = Some(number as u32),
             Key::Terms => self.terms = Some(number as u32),
             Key::Defaults => self.defaults = Some(number as u32),
+            Key::Names => self.names = Some(number as u32),
             Key::Commands => self.commands = Some(number as u32),
             Key::Conflicts => self.conflicts = Some(number),
         }
@@ -93,6 +97,7 @@ impl Given {
             clock: self.clock.unwrap_or(0),
             terms: self.terms.unwrap_or(0),
             defaults: self.defaults.unwrap_or(0),
+            names: self.names.unwrap_or(0),
             commands: self.commands.unwrap_or(20_000),
             conflicts: self.conflicts.unwrap_or(1_000_000),
         }

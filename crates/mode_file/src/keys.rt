@@ -14,11 +14,12 @@ pub(crate) enum Key {
     Clock,
     Terms,
     Defaults,
+    Names,
     Commands,
     Conflicts,
 }
 
-const KEYS: [Key; 11] = [
+const KEYS: [Key; 12] = [
     Key::Process,
     Key::Mate,
     Key::Confront,
@@ -28,6 +29,7 @@ const KEYS: [Key; 11] = [
     Key::Clock,
     Key::Terms,
     Key::Defaults,
+    Key::Names,
     Key::Commands,
     Key::Conflicts,
 ];
@@ -46,6 +48,7 @@ impl Key {
             Key::Clock => b"clock",
             Key::Terms => b"terms",
             Key::Defaults => b"defaults",
+            Key::Names => b"names",
             Key::Commands => b"commands",
             Key::Conflicts => b"conflicts",
         }
@@ -56,7 +59,7 @@ impl Key {
         ensures { result ≡ greatest self }
     {
         match self {
-            Key::Clock | Key::Terms => 1,
+            Key::Clock | Key::Terms | Key::Names => 1,
             Key::Commands => 1_000_000,
             Key::Conflicts => 1_000_000_000_000,
             Key::Process

@@ -23,8 +23,9 @@ pub use number::{NumberRefused, first_word, read_number};
 pub use refused::ModeRefused;
 
 /// What the search is run by: how long each kind of command is put off, and from which moment on; whether terms are offered early; how
-/// much longer commands wait that bring in a default; how many commands are carried out at most; and how many conflicts the solver may
-/// meet. By clock 0 the moment is the number of the command that is carried out, by clock 1 the moment at which that command was due.
+/// much longer commands wait that bring in a default; whether partial terms grow only by what occurs in the start; how many commands are
+/// carried out at most; and how many conflicts the solver may meet. By clock 0 the moment is the number of the command that is carried
+/// out, by clock 1 the moment at which that command was due.
 #[derive(Clone, Copy, Debug, PartialEq, Eq)]
 pub struct Mode {
     pub process: u32,
@@ -36,6 +37,7 @@ pub struct Mode {
     pub clock: u32,
     pub terms: u32,
     pub defaults: u32,
+    pub names: u32,
     pub commands: u32,
     pub conflicts: u64,
 }

@@ -1,6 +1,6 @@
 -- The runs of the worked examples, by computation.
 use Rattle.std.specs.Prelude.{refl}
-use Rattle.search_spec.specs.Rows.{AllRuns, AgreeRuns, ChosenRuns, DescribedRuns, SymRuns, SomeRuns, DueRuns, OfferedRuns, DelayedRuns}
+use Rattle.search_spec.specs.Rows.{AllRuns, AgreeRuns, ChosenRuns, DescribedRuns, SymRuns, SomeRuns, DueRuns, OfferedRuns, DelayedRuns, SeenRuns}
 
 pub all_runs : AllRuns
 all_runs = (refl, refl)
@@ -28,3 +28,6 @@ offered_runs = (refl, refl, refl)
 
 pub delayed_runs : DelayedRuns
 delayed_runs = (refl, refl)
+
+pub seen_runs : SeenRuns
+seen_runs = ((refl, refl, refl, refl, refl), refl, refl)

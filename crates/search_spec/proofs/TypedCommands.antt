@@ -18,6 +18,7 @@ use Rattle.command_queue.specs.Queue.{comes_before}
 use Rattle.search_spec.specs.State.{State, Setting, Command, process, mate, confront, inst, choose, describe, grow}
 use Rattle.search_spec.specs.Instances.{with_instance}
 use Rattle.search_spec.specs.Commands.{with_mating, with_confrontation, with_instantiation, with_command}
+use Rattle.search_spec.specs.Offers.{offered_heads}
 use Rattle.search_spec.specs.After.{nothing_yet, starting_state, with_taken, after_command, next_state, state_after}
 use Rattle.search_spec.specs.TypedState.{Mates, Confronts, Instantiates, IsTypedCommand, IsTypedStateWith, IsTypedState}
 use Rattle.search_spec.proofs.NamingLaws.{pick_good}
@@ -134,7 +135,7 @@ module _ (setting : Setting) (over : IsScope setting.scope) where
   started-typed start h =
       let ls = filter is_shallow_literal start in
       let cs = map process ls in
-      let first = record nothing_yet { clauses = map (λ l. l ∷ []) ls; seen = ls } in
+      let first = record nothing_yet { clauses = map (λ l. l ∷ []) ls; seen = ls; offers = offered_heads setting.mode setting.scope ls } in
       let typed = each_mapped (IsLiteral (with_rows setting.scope [])) (IsTypedCommand (with_rows setting.scope [])) process (λ l k. k) ls
       (each_filtered (IsLiteral (with_rows setting.scope [])) (IsLiteral (with_rows setting.scope [])) is_shallow_literal (λ l k e. k) start (shallow_each start h)) in
       record { table = tt; typed = pushed-typed setting [] cs first typed (record { are_rows = refl; noted = tt; terms = tt; parked = tt; queue = tt }) }

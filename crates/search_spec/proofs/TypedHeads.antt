@@ -1,20 +1,20 @@
 -- The heads for a hole fit it.
-use Rattle.std.specs.Prelude.{◌≡◌, ◌+◌, ◌<◌, ◌≤◌, ℕ, zero, suc, nat_eq, Bool, true, false, List, [], ◌∷◌, ◌++◌, map, Option, Some, None, slice_get, refl, if◌then◌else◌}
+use Rattle.std.specs.Prelude.{◌≡◌, ◌+◌, ◌<◌, ◌≤◌, ℕ, zero, suc, nat_eq, Bool, true, false, List, [], ◌∷◌, ◌++◌, map, filter, ◌||◌, Option, Some, None, slice_get, refl, if◌then◌else◌}
 use Rattle.std.proofs.Common.{ap, ◌∙◌, subst, arith, eqb-true}
 use Rattle.std.proofs.lemmas.Bool.{and_parts, lt-ltb}
 use Rattle.stt_core.specs.SimpleType.{SimpleType, base, arrow, formula, predicate, is_declared, target}
-use Rattle.stt_core.specs.Lambda.{name, witness, falsity, negation, implication, all, equality, Lambda, bound, constant, lam, app}
+use Rattle.stt_core.specs.Lambda.{name, witness, falsity, negation, implication, all, equality, choice, Lambda, bound, constant, lam, app}
 use Rattle.stt_core.specs.Typing.{Scope, IsScope, AreDeclared}
 use Rattle.stt_core.specs.Canonical.{IsFrom}
 use Rattle.stt_core.proofs.TypeLaws.{get_declared, constant_declared}
 use Rattle.search_spec.specs.Each.{Each}
 use Rattle.search_spec.specs.Partial.{Partial, hole, head, function, application, Hole, or_else, first_hole}
 use Rattle.search_spec.specs.TypedPartial.{IsPartial, IsPartialSpine}
-use Rattle.search_spec.specs.Heads.{places_to, bases_from, logical_heads, fitting_heads}
+use Rattle.search_spec.specs.Heads.{HeadOffers, places_to, bases_from, is_offered, is_offered_base, offered_bases, given_heads, is_none_given, logical_heads, fitting_heads}
 use Rattle.search_spec.specs.TypedState.{FitsHole}
 use Rattle.search_spec.proofs.ClosedLaws.{both_true}
 use Rattle.search_spec.proofs.NamingLaws.{each-joined}
-use Rattle.search_spec.proofs.TypedPushes.{each_mapped}
+use Rattle.search_spec.proofs.TypedPushes.{each_filtered, each_mapped}
 use Rattle.search_spec.proofs.PartialLaws.{some_same, none_some}
 
 places_fit : (P : ℕ → Type 0) (n k : ℕ) (types : List SimpleType) → ((i : ℕ) (a : SimpleType) → slice_get types i ≡ Some a → target a ≡ n → P (k + i)) → Each P (places_to n k types)
@@ -63,43 +63,58 @@ module _ (scope : Scope) (good : IsScope scope) where
       gives = refl;
     }
 
-    logical_fit : (n : ℕ) → is_declared scope.bases (base n) ≡ true → Each (Fits n) (logical_heads scope n)
-    logical_fit zero d =
-        each-joined (Fits 0) (constant falsity ∷ constant negation ∷ constant implication ∷ [] ++ map (λ c. constant (equality c)) (bases_from 0 (scope.bases + 2))) (map (λ c. constant (all c)) (bases_from 1 (scope.bases + 1)))
-        (each-joined (Fits 0) (constant falsity ∷ constant negation ∷ constant implication ∷ []) (map (λ c. constant (equality c)) (bases_from 0 (scope.bases + 2))) (
+    offered_declared : (offers : HeadOffers) → Each (λ c. is_declared scope.bases c ≡ true) (offered_bases offers scope)
+    offered_declared offers =
+        each_filtered (λ c. is_declared scope.bases c ≡ true) (λ c. is_declared scope.bases c ≡ true) (is_offered_base offers) (λ c h e. h) (bases_from 1 (scope.bases + 1)) (bases_declared 1 (scope.bases + 1) (omega arith))
+
+    choice_fits : (n : ℕ) → is_declared scope.bases (base (suc n)) ≡ true → Fits (suc n) (constant (choice (base (suc n))))
+    choice_fits n d = record {
+      leaf = tt;
+      type = arrow (predicate (base (suc n))) (base (suc n));
+      has_type = ap (λ b. if b then Some (arrow (predicate (base (suc n))) (base (suc n))) else None) d;
+      declared = function_declared (predicate (base (suc n))) (base (suc n)) (function_declared (base (suc n)) formula d formula_declared) d;
+      gives = refl;
+    }
+
+    logical_fit : (offers : HeadOffers) (n : ℕ) (chooses : Bool) → is_declared scope.bases (base n) ≡ true → Each (Fits n) (logical_heads offers scope n chooses)
+    logical_fit offers zero chooses d =
+        each-joined (Fits 0) (constant falsity ∷ constant negation ∷ constant implication ∷ constant (equality formula) ∷ [] ++ map (λ c. constant (equality c)) (offered_bases offers scope)) (map (λ c. constant (all c)) (offered_bases offers scope))
+        (each-joined (Fits 0) (constant falsity ∷ constant negation ∷ constant implication ∷ constant (equality formula) ∷ []) (map (λ c. constant (equality c)) (offered_bases offers scope)) (
           record { leaf = tt; type = formula; has_type = refl; declared = d; gives = refl },
           (
             record { leaf = tt; type = arrow formula formula; has_type = refl; declared = function_declared formula formula d d; gives = refl },
-            (record { leaf = tt; type = arrow formula (arrow formula formula); has_type = refl; declared = function_declared formula (arrow formula formula) d (function_declared formula formula d d); gives = refl }, tt),
+            (record { leaf = tt; type = arrow formula (arrow formula formula); has_type = refl; declared = function_declared formula (arrow formula formula) d (function_declared formula formula d d); gives = refl }, (equality_fits formula d, tt)),
           ),
         )
-        (each_mapped (λ c. is_declared scope.bases c ≡ true) (Fits 0) (λ c. constant (equality c)) equality_fits (bases_from 0 (scope.bases + 2)) (bases_declared 0 (scope.bases + 2) (omega arith))))
-        (each_mapped (λ c. is_declared scope.bases c ≡ true) (Fits 0) (λ c. constant (all c)) quantifier_fits (bases_from 1 (scope.bases + 1)) (bases_declared 1 (scope.bases + 1) (omega arith)))
-    logical_fit (suc n) d = (
-      record {
-        leaf = tt;
-        type = arrow (predicate (base (suc n))) (base (suc n));
-        has_type = ap (λ b. if b then Some (arrow (predicate (base (suc n))) (base (suc n))) else None) d;
-        declared = function_declared (predicate (base (suc n))) (base (suc n)) (function_declared (base (suc n)) formula d formula_declared) d;
-        gives = refl;
-      },
-      tt,
-    )
+        (each_mapped (λ c. is_declared scope.bases c ≡ true) (Fits 0) (λ c. constant (equality c)) equality_fits (offered_bases offers scope) (offered_declared offers)))
+        (each_mapped (λ c. is_declared scope.bases c ≡ true) (Fits 0) (λ c. constant (all c)) quantifier_fits (offered_bases offers scope) (offered_declared offers))
+    logical_fit offers (suc n) false d = tt
+    logical_fit offers (suc n) true d = (choice_fits n d, tt)
 
     listed_fit : (n : ℕ) (types : List SimpleType) (make : ℕ → Lambda) → ((i : ℕ) (a : SimpleType) → slice_get types i ≡ Some a → target a ≡ n → Fits n (make i)) → Each (Fits n) (map make (places_to n 0 types))
     listed_fit n types make f =
         each_mapped (λ j. Fits n (make j)) (Fits n) make (λ j h. h) (places_to n 0 types)
         (places_fit (λ j. Fits n (make j)) n 0 types (λ i a g e. let P : ℕ → Type 0 = λ j. Fits n (make j) in let same : i ≡ 0 + i = omega arith in subst P same (f i a g e)))
 
-    pub heads_fit : (n : ℕ) → AreDeclared scope.bases ctx → is_declared scope.bases (base n) ≡ true → Each (Fits n) (fitting_heads scope (record { base = n; context = ctx }))
-    heads_fit n c d =
-        each-joined (Fits n) _ (logical_heads scope n)
-        (each-joined (Fits n) _ (map (λ k. constant (witness k)) (places_to n 0 scope.witnesses))
-        (each-joined (Fits n) (map bound (places_to n 0 ctx)) (map (λ k. constant (name k)) (places_to n 0 scope.names))
+    offered_fit : (n : ℕ) (types : List SimpleType) (flags : List Bool) (make : ℕ → Lambda) → ((i : ℕ) (a : SimpleType) → slice_get types i ≡ Some a → target a ≡ n → Fits n (make i)) → Each (Fits n) (map make (filter (is_offered flags) (places_to n 0 types)))
+    offered_fit n types flags make f =
+        each_mapped (λ j. Fits n (make j)) (Fits n) make (λ j h. h) (filter (is_offered flags) (places_to n 0 types))
+        (each_filtered (λ j. Fits n (make j)) (λ j. Fits n (make j)) (is_offered flags) (λ j h e. h) (places_to n 0 types)
+        (places_fit (λ j. Fits n (make j)) n 0 types (λ i a g e. let P : ℕ → Type 0 = λ j. Fits n (make j) in let same : i ≡ 0 + i = omega arith in subst P same (f i a g e))))
+
+    given_fit : (offers : HeadOffers) (n : ℕ) → AreDeclared scope.bases ctx → Each (Fits n) (given_heads offers scope (record { base = n; context = ctx }))
+    given_fit offers n c =
+        each-joined (Fits n) _ (map (λ k. constant (witness k)) (places_to n 0 scope.witnesses))
+        (each-joined (Fits n) (map bound (places_to n 0 ctx)) (map (λ k. constant (name k)) (filter (is_offered offers.names) (places_to n 0 scope.names)))
         (listed_fit n ctx bound (λ i a g e. record { leaf = tt; type = a; has_type = g; declared = get_declared scope.bases ctx i a c g; gives = e }))
-        (listed_fit n scope.names (λ k. constant (name k)) (λ i a g e. record { leaf = tt; type = a; has_type = g; declared = constant_declared scope good (name i) a g; gives = e })))
-        (listed_fit n scope.witnesses (λ k. constant (witness k)) (λ i a g e. record { leaf = tt; type = a; has_type = g; declared = constant_declared scope good (witness i) a g; gives = e })))
-        (logical_fit n d)
+        (offered_fit n scope.names offers.names (λ k. constant (name k)) (λ i a g e. record { leaf = tt; type = a; has_type = g; declared = constant_declared scope good (name i) a g; gives = e })))
+        (listed_fit n scope.witnesses (λ k. constant (witness k)) (λ i a g e. record { leaf = tt; type = a; has_type = g; declared = constant_declared scope good (witness i) a g; gives = e }))
+
+    pub heads_fit : (offers : HeadOffers) (n : ℕ) → AreDeclared scope.bases ctx → is_declared scope.bases (base n) ≡ true → Each (Fits n) (fitting_heads offers scope (record { base = n; context = ctx }))
+    heads_fit offers n c d =
+        let given = given_heads offers scope (record { base = n; context = ctx }) in
+        let chooses = offers.choices || is_none_given given in
+        each-joined (Fits n) given (logical_heads offers scope n chooses) (given_fit offers n c) (logical_fit offers n chooses d)
 
   -- the type of a head with arguments is declared
   spine_declared : (ctx : List SimpleType) (a : SimpleType) (p : Partial) → AreDeclared scope.bases ctx → IsPartialSpine scope ctx a p → is_declared scope.bases a ≡ true

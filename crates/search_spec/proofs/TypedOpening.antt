@@ -13,7 +13,7 @@ use Rattle.tableau_calculus.specs.Witnesses.{Row, with_rows}
 use Rattle.search_spec.specs.Each.{Each}
 use Rattle.search_spec.specs.Partial.{Partial, head, Hole, first_hole, with_filling, whole_term, blank_partial, with_holes}
 use Rattle.search_spec.specs.TypedPartial.{IsPartial, IsPartialSpine}
-use Rattle.search_spec.specs.Heads.{fitting_heads, heads_for}
+use Rattle.search_spec.specs.Heads.{HeadOffers, fitting_heads, heads_for}
 use Rattle.search_spec.specs.State.{State, Setting, Sketch, grow, scope_in}
 use Rattle.search_spec.specs.Terms.{with_terms, with_opening, first_terms}
 use Rattle.search_spec.specs.Offers.{offers_terms, is_prepared, witness_terms, early_terms}
@@ -32,18 +32,18 @@ module _ (setting : Setting) (rows : List Row) (good : IsScope (with_rows settin
   abbrev Good : State → Type 0
   Good s = IsTypedStateWith setting rows s
 
-  growing : (p : Sketch) → IsTypedSketch over p → (o : Option Hole) → first_hole [] p.partial ≡ o → Each (IsTypedCommand over) (map (grow p) (heads_for over o))
-  growing p t None e = tt
-  growing p t (Some h) e =
+  growing : (offers : HeadOffers) (p : Sketch) → IsTypedSketch over p → (o : Option Hole) → first_hole [] p.partial ≡ o → Each (IsTypedCommand over) (map (grow p) (heads_for offers over o))
+  growing offers p t None e = tt
+  growing offers p t (Some h) e =
       let d = declared_at over good [] p.type p.partial h tt t.declared t.typed e in
       each_mapped (FitsHole over h) (IsTypedCommand over) (grow p) (λ x f. record { sketch = t; hole = h; is_first = e; fits = f })
-      (fitting_heads over h) (heads_fit over good h.context h.base d.context d.type)
+      (fitting_heads offers over h) (heads_fit over good h.context offers h.base d.context d.type)
 
   pub opened-typed : (p : Sketch) (s : State) → IsTypedSketch over p → Good s → Good (with_opening setting p s)
   opened-typed p s t g =
-      let P : List Row → Type 0 = λ r. Each (IsTypedCommand over) (map (grow p) (heads_for (with_rows setting.scope r) (first_hole [] p.partial))) in
-      pushed-typed setting rows (map (grow p) (heads_for (scope_in setting s) (first_hole [] p.partial))) (record s { parked = s.parked ++ p ∷ [] })
-      (subst P (sym g.are_rows) (growing p t (first_hole [] p.partial) refl))
+      let P : List Row → Type 0 = λ r. Each (IsTypedCommand over) (map (grow p) (heads_for s.offers (with_rows setting.scope r) (first_hole [] p.partial))) in
+      pushed-typed setting rows (map (grow p) (heads_for s.offers (scope_in setting s) (first_hole [] p.partial))) (record s { parked = s.parked ++ p ∷ [] })
+      (subst P (sym g.are_rows) (growing s.offers p t (first_hole [] p.partial) refl))
       (record { are_rows = g.are_rows; noted = g.noted; terms = g.terms; parked = each-joined (IsTypedSketch over) s.parked (p ∷ []) g.parked (t, tt); queue = g.queue })
 
   begun-typed : (a : SimpleType) (s : State) → is_declared setting.scope.bases a ≡ true → Good s → Good (with_beginning setting a s)

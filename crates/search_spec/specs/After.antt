@@ -1,20 +1,38 @@
 -- The run of the search (Brown 2013): command by command.
-use Rattle.std.specs.Prelude.{ℕ, zero, suc, List, [], ◌∷◌, map, filter, Option, Some, None}
+use Rattle.std.specs.Prelude.{ℕ, zero, suc, List, [], ◌∷◌, map, filter, false, Option, Some, None}
 use Rattle.tableau_calculus.specs.Literals.{Literal}
 use Rattle.search_spec.specs.Shallow.{is_shallow_literal}
 use Rattle.search_spec.specs.State.{State, Setting, Command, process, moment_by, with_commands}
+use Rattle.search_spec.specs.Offers.{offered_heads}
 use Rattle.search_spec.specs.Commands.{with_command}
 use Rattle.search_spec.specs.Queue.{next_command, without_number}
 use Rattle.command_queue.specs.declared.entry.Entry.{Entry}
 
 abbrev pub nothing_yet : State
-nothing_yet = record { clauses = []; seen = []; noted = []; terms = []; chosen = []; described = []; rows = []; parked = []; queue = []; pushes = 0; done = 0; moment = 0 }
+nothing_yet = record {
+  clauses = [];
+  seen = [];
+  noted = [];
+  terms = [];
+  chosen = [];
+  described = [];
+  rows = [];
+  parked = [];
+  queue = [];
+  pushes = 0;
+  done = 0;
+  moment = 0;
+  offers = record { names = []; bases = []; choices = false };
+}
 
--- The start: each literal that is shallow enough is a clause, is seen, and is to be processed.
+-- The start: each literal that is shallow enough is a clause, is seen, and is to be processed. What they are made of says which heads are
+-- offered.
 abbrev pub starting_state : Setting → List Literal → State
 starting_state setting start =
     let literals = filter is_shallow_literal start in
-    with_commands setting.mode (map process literals) (record nothing_yet { clauses = map (λ l. l ∷ []) literals; seen = literals })
+    let offers = offered_heads setting.mode setting.scope literals in
+    with_commands setting.mode (map process literals)
+    (record nothing_yet { clauses = map (λ l. l ∷ []) literals; seen = literals; offers = offers })
 
 -- the state in which this command was taken from the queue
 abbrev pub with_taken : Setting → Entry Command → State → State

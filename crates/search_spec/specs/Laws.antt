@@ -17,7 +17,7 @@ use Rattle.search_spec.specs.State.{State, Setting}
 use Rattle.search_spec.specs.After.{state_after}
 use Rattle.search_spec.specs.TypedState.{IsTypedState}
 use Rattle.search_spec.specs.Result.{Result, IsResult}
-use Rattle.search_spec.specs.Rows.{AllRuns, AgreeRuns, ChosenRuns, DescribedRuns, SymRuns, SomeRuns, DueRuns, OfferedRuns, DelayedRuns}
+use Rattle.search_spec.specs.Rows.{AllRuns, AgreeRuns, ChosenRuns, DescribedRuns, SymRuns, SomeRuns, DueRuns, OfferedRuns, DelayedRuns, SeenRuns}
 
 -- is_closed tells whether no variable is free in a term
 abbrev pub ClosedTermsAreTold : Type 0
@@ -49,7 +49,7 @@ RunsEndOneWay = (setting : Setting) (start : List Literal) (r r' : Result) → I
 
 -- the worked examples run as they are to
 abbrev pub ExamplesRun : Type 0
-ExamplesRun = AllRuns × AgreeRuns × ChosenRuns × DescribedRuns × SymRuns × SomeRuns × DueRuns × OfferedRuns × DelayedRuns
+ExamplesRun = AllRuns × AgreeRuns × ChosenRuns × DescribedRuns × SymRuns × SomeRuns × DueRuns × OfferedRuns × DelayedRuns × SeenRuns
 
 -- Every state of a run from literals over what is declared is typed: its rows are a witness table, its literals are literals and its terms
 -- canonical over what is declared and the witnesses, its partial terms take terms of their holes' types, and each command that waits has

@@ -1,9 +1,12 @@
 -- Worked examples: problems, and the commands of their runs.
 use Rattle.std.specs.Prelude.{◌≡◌, ℕ, List, [], ◌∷◌, drop, map, Some, option_map}
 use Rattle.stt_core.specs.SimpleType.{SimpleType, base, arrow, predicate}
-use Rattle.stt_core.specs.Lambda.{name, witness, falsity, choice, description, Lambda, bound, constant, lam, app, neg, imp, eq, every}
+use Rattle.stt_core.specs.Lambda.{name, witness, falsity, negation, implication, all, equality, choice, description, Lambda, bound, constant, lam, app, neg, imp, eq, every}
 use Rattle.tableau_calculus.specs.Literals.{Literal, plus, minus, opposite}
 use Rattle.search_spec.specs.Mode.{standard_mode}
+use Rattle.search_spec.specs.Partial.{Hole}
+use Rattle.search_spec.specs.Heads.{fitting_heads}
+use Rattle.search_spec.specs.Offers.{offered_heads}
 use Rattle.command_queue.specs.declared.entry.Entry.{Entry}
 use Rattle.search_spec.specs.State.{Setting, Command, process, mate, confront, inst, choose, describe}
 use Rattle.search_spec.specs.After.{starting_state, state_after}
@@ -29,6 +32,14 @@ with_defaults_late setting = record setting { mode = record standard_mode { defa
 -- the same, where witnesses and the sides of negated equations between functions are terms at once
 abbrev pub with_terms_offered : Setting → Setting
 with_terms_offered setting = record setting { mode = record standard_mode { terms = 1 } }
+
+-- the same, where only heads are offered that occur in the start
+abbrev pub with_seen_heads : Setting → Setting
+with_seen_heads setting = record setting { mode = record standard_mode { names = 1 } }
+
+-- the heads that fit a hole in the runs from a start
+abbrev pub heads_at : Setting → List Literal → Hole → List Lambda
+heads_at setting start h = fitting_heads (offered_heads setting.mode setting.scope start) setting.scope h
 
 abbrev pub commands : List (Entry Command) → List Command
 commands queue = map (λ q. q.command) queue
@@ -180,3 +191,24 @@ DelayedRuns =
     (commands (trace (with_defaults_late all_setting) 7 (Some (starting_state (with_defaults_late all_setting) all_c_start)))
     ≡ process some_p ∷ process all_c ∷ process (minus (p_at (named 1))) ∷ process (plus (p_at (constant (witness 0)))) ∷ mate (plus (p_at (constant (witness 0)))) (minus (p_at (named 1))) ∷ process (minus (eq i (constant (witness 0)) (named 1))) ∷ inst all_c (constant (witness 0)) ∷ [])
     × (dues (trace (with_defaults_late all_setting) 7 (Some (starting_state (with_defaults_late all_setting) all_c_start))) ≡ (0, 0) ∷ (0, 1) ∷ (0, 2) ∷ (1, 3) ∷ (5, 5) ∷ (5, 6) ∷ (7, 7) ∷ [])
+
+-- c: $i, and d: $i, q: $i > $o and a base type, of which the conjecture says nothing: that something holds of c
+abbrev pub unseen_setting : Setting
+unseen_setting = record { scope = record { bases = 1; names = i ∷ i ∷ predicate i ∷ []; witnesses = [] }; mode = standard_mode }
+
+-- Of the names c alone is offered, of the base types $i, and a choice where nothing else fits, or where a description occurs.
+abbrev pub SeenHeads : Type 0
+SeenHeads =
+    (heads_at unseen_setting (none_holds ∷ []) (record { base = 1; context = i ∷ [] }) ≡ bound 0 ∷ named 0 ∷ named 1 ∷ constant (choice i) ∷ [])
+    × (heads_at (with_seen_heads unseen_setting) (none_holds ∷ []) (record { base = 1; context = i ∷ [] }) ≡ bound 0 ∷ named 0 ∷ [])
+    × (heads_at (with_seen_heads unseen_setting) (none_holds ∷ []) (record { base = 2; context = i ∷ [] }) ≡ constant (choice (base 2)) ∷ [])
+    × (heads_at (with_seen_heads unseen_setting) (none_holds ∷ []) (record { base = 0; context = i ∷ [] })
+    ≡ constant falsity ∷ constant negation ∷ constant implication ∷ constant (equality (base 0)) ∷ constant (equality i) ∷ constant (all i) ∷ [])
+    × (heads_at (with_seen_heads chosen_setting) described_start (record { base = 1; context = i ∷ [] }) ≡ bound 0 ∷ constant (choice i) ∷ [])
+
+-- what doesn't occur makes no difference: the run is that of the problem with c alone, but for the choices
+abbrev pub SeenRuns : Type 0
+SeenRuns =
+    SeenHeads
+    × (dues (trace (with_seen_heads unseen_setting) 28 (Some (starting_state (with_seen_heads unseen_setting) (none_holds ∷ [])))) ≡ (0, 0) ∷ (5, 1) ∷ (3, 7) ∷ (3, 8) ∷ (5, 2) ∷ (5, 3) ∷ (5, 4) ∷ (5, 5) ∷ (5, 6) ∷ (9, 9) ∷ (9, 10) ∷ (9, 11) ∷ (9, 12) ∷ (9, 13) ∷ (9, 14) ∷ (10, 15) ∷ (10, 16) ∷ (10, 17) ∷ (10, 18) ∷ (10, 19) ∷ (10, 20) ∷ (11, 21) ∷ (11, 22) ∷ (11, 23) ∷ (11, 24) ∷ (11, 25) ∷ (11, 26) ∷ (11, 35) ∷ [])
+    × (option_map (λ s. s.clauses) (state_after (with_seen_heads unseen_setting) (none_holds ∷ []) 28) ≡ Some ((none_holds ∷ []) ∷ (opposite none_holds ∷ minus (constant falsity) ∷ []) ∷ (opposite none_holds ∷ plus (constant falsity) ∷ []) ∷ []))

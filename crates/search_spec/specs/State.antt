@@ -8,6 +8,7 @@ use Rattle.tableau_calculus.specs.Witnesses.{Row, with_rows}
 use Rattle.search_spec.specs.Unsatisfiable.{Clause}
 use Rattle.mode_file.specs.declared.Mode.{Mode}
 use Rattle.search_spec.specs.Partial.{Partial}
+use Rattle.search_spec.specs.Heads.{HeadOffers}
 use Rattle.search_spec.specs.Defaults.{is_default_term, is_value_choice, default_delay}
 use Rattle.search_spec.specs.Queue.{new_entries}
 use Rattle.command_queue.specs.declared.entry.Entry.{Entry}
@@ -40,7 +41,7 @@ pub data Command : Type 0 where
 
 -- The clauses, the literals that were seen and those that were processed, the terms for instances, the predicates that were chosen by
 -- and those that were described, the witness table, the partial terms, the commands that wait, how many commands were pushed and done so
--- far, and the moment from which delays count.
+-- far, the moment from which delays count, and what is offered to holes, which never changes.
 pub record State : Type 0 where
   pub clauses : List Clause
   pub seen : List Literal
@@ -54,6 +55,7 @@ pub record State : Type 0 where
   pub pushes : ℕ
   pub done : ℕ
   pub moment : ℕ
+  pub offers : HeadOffers
 
 -- How long the commands of a kind wait. A choice and a description wait equally long.
 abbrev pub kind_delay : Mode → Command → ℕ

@@ -24,7 +24,7 @@ use Rattle.search_spec.specs.Spine.{head_of, arguments, is_spine, same_head}
 use Rattle.tableau_calculus.specs.Rules.{Alternatives, imp_pos, imp_neg, bool_pos, bool_neg, fun_pos, fun_neg, all_pos, all_neg, differ, con, cho, des}
 use Rattle.search_spec.specs.Instances.{with_literal, with_literals, with_instance}
 use Rattle.search_spec.specs.Terms.{terms_of, ranges_over, universals, with_term, with_terms, first_terms, with_opening}
-use Rattle.search_spec.specs.Offers.{is_prepared, early_terms, offered_witness, offered_sides}
+use Rattle.search_spec.specs.Offers.{is_prepared, early_terms, offered_witness, offered_sides, offered_heads}
 use Rattle.search_spec.specs.Preparing.{with_beginning, with_preparation}
 use Rattle.search_spec.specs.Partners.{partners, positive_first, matings, confrontations}
 use Rattle.search_spec.specs.Selections.{Selection, by_choice, by_description, selection_by, selections_in, with_selection, with_selections}
@@ -151,7 +151,7 @@ module _ (setting : Setting) where
 
   opened-flat : (p : Sketch) (s : State) → Is s → Is (with_opening setting p s)
   opened-flat p s g =
-      let heads = heads_for (scope_in setting s) (first_hole [] p.partial) in
+      let heads = heads_for s.offers (scope_in setting s) (first_hole [] p.partial) in
       pushed-flat (map (grow p) heads) (record s { parked = s.parked ++ p ∷ [] }) (all_mapped IsFlatCommand (grow p) (λ h. tt) heads) (record { clauses = g.clauses; noted = g.noted; rows = g.rows; queue = g.queue })
 
   begun-flat : (a : SimpleType) (s : State) → Is s → Is (with_beginning setting a s)
@@ -324,7 +324,7 @@ module _ (setting : Setting) where
   started-flat start =
       let ls = filter is_shallow_literal start in
       let some = passed start in
-      pushed-flat (map process ls) (record nothing_yet { clauses = map (λ l. l ∷ []) ls; seen = ls }) (each_mapped IsFlat IsFlatCommand process (λ l k. k) ls some)
+      pushed-flat (map process ls) (record nothing_yet { clauses = map (λ l. l ∷ []) ls; seen = ls; offers = offered_heads setting.mode setting.scope ls }) (each_mapped IsFlat IsFlatCommand process (λ l k. k) ls some)
       (record { clauses = each_mapped IsFlat (Each IsFlat) (λ l. l ∷ []) (λ l k. (k, tt)) ls some; noted = tt; rows = tt; queue = tt })
 
   pub after-flat : (start : List Literal) (n : ℕ) (s : State) → state_after setting start n ≡ Some s → Is s

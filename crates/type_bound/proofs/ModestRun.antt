@@ -19,7 +19,7 @@ use Rattle.search_spec.specs.Spine.{head_of, arguments, is_spine, same_head}
 use Rattle.tableau_calculus.specs.Rules.{imp_pos, imp_neg, bool_pos, bool_neg, fun_pos, fun_neg, all_pos, all_neg, differ, con, cho, des}
 use Rattle.search_spec.specs.Instances.{with_instance}
 use Rattle.search_spec.specs.Terms.{terms_of, with_term, with_terms}
-use Rattle.search_spec.specs.Offers.{offers_terms, takes_witness, offered_witness, offered_sides}
+use Rattle.search_spec.specs.Offers.{offers_terms, takes_witness, offered_witness, offered_sides, offered_heads}
 use Rattle.search_spec.specs.Preparing.{with_preparation}
 use Rattle.search_spec.specs.Partners.{matings, confrontations}
 use Rattle.search_spec.specs.Selections.{selections_in}
@@ -211,7 +211,7 @@ module _ (limit : ℕ) (setting : Setting) (good : IsModestSetting limit setting
   started-modest start h =
       let ls = filter is_shallow_literal start in
       let some = each_filtered Lit Lit is_shallow_literal (λ l k e. k) start h in
-      let first = record nothing_yet { clauses = map (λ l. l ∷ []) ls; seen = ls } in
+      let first = record nothing_yet { clauses = map (λ l. l ∷ []) ls; seen = ls; offers = offered_heads setting.mode setting.scope ls } in
       pushed-modest limit setting (map process ls) first (each_mapped Lit (IsModestCommand limit) process (λ l k. k) ls some)
       (record { clauses = each_mapped Lit (Each Lit) (λ l. l ∷ []) (λ l k. (k, tt)) ls some; noted = tt; terms = tt; rows = tt; parked = tt; queue = tt })
 

@@ -21,7 +21,7 @@ use Rattle.search_spec.specs.State.{State, Setting, Typed, Sketch, Command, proc
 use Rattle.search_spec.specs.Spine.{head_of, has_compared_head, same_head}
 use Rattle.tableau_calculus.specs.Rules.{Alternatives}
 use Rattle.search_spec.specs.Instances.{with_literal, with_literals, with_instance}
-use Rattle.search_spec.specs.Heads.{places_to, bases_from, logical_heads, heads_for}
+use Rattle.search_spec.specs.Heads.{HeadOffers, places_to, bases_from, is_offered, is_offered_base, offered_bases, given_heads, is_none_given, logical_heads, heads_for}
 use Rattle.search_spec.specs.Partial.{Partial, hole, head, function, application, Hole, or_else, first_hole, in_first, with_filling, whole_term, blank_partial, with_holes}
 use Rattle.search_spec.specs.Terms.{terms_of, ranges_over, universals, with_term, with_terms, first_terms, with_opening}
 use Rattle.search_spec.specs.Offers.{offers_terms, is_prepared, witness_terms, early_terms}
@@ -129,32 +129,48 @@ module _ (limit : ℕ) (setting : Setting) where
     bases_shallow k zero = tt
     bases_shallow k (suc n) = (omega arith, bases_shallow (suc k) n)
 
-    logical-modest : (scope : Scope) (n : ℕ) → Each IsHead (logical_heads scope n)
-    logical-modest scope zero = (
-      (tt, tt),
-      (
-        (tt, tt),
+    offered_shallow : (offers : HeadOffers) (scope : Scope) → Each (λ c. nesting c ≤ limit) (offered_bases offers scope)
+    offered_shallow offers scope =
+        each_filtered (λ c. nesting c ≤ limit) (λ c. nesting c ≤ limit) (is_offered_base offers) (λ c h e. h) (bases_from 1 (scope.bases + 1)) (bases_shallow 1 (scope.bases + 1))
+
+    logical-modest : (offers : HeadOffers) (scope : Scope) (n : ℕ) (chooses : Bool) → Each IsHead (logical_heads offers scope n chooses)
+    logical-modest offers scope zero chooses =
+        let bases = offered_bases offers scope in
+        let equality_shallow : nesting (base 0) ≤ limit = omega arith in
         (
           (tt, tt),
-          each-joined IsHead (map (λ c. constant (equality c)) (bases_from 0 (scope.bases + 2))) (map (λ c. constant (all c)) (bases_from 1 (scope.bases + 1)))
-              (each_mapped (λ c. nesting c ≤ limit) IsHead (λ c. constant (equality c)) (λ c h. (tt, h)) (bases_from 0 (scope.bases + 2)) (bases_shallow 0 (scope.bases + 2)))
-              (each_mapped (λ c. nesting c ≤ limit) IsHead (λ c. constant (all c)) (λ c h. (tt, h)) (bases_from 1 (scope.bases + 1)) (bases_shallow 1 (scope.bases + 1))),
-        ),
-      ),
-    )
-    logical-modest scope (suc n) = ((tt, good.some), tt)
+          (
+            (tt, tt),
+            (
+              (tt, tt),
+              (
+                (tt, equality_shallow),
+                each-joined IsHead (map (λ c. constant (equality c)) bases) (map (λ c. constant (all c)) bases)
+                    (each_mapped (λ c. nesting c ≤ limit) IsHead (λ c. constant (equality c)) (λ c h. (tt, h)) bases (offered_shallow offers scope))
+                    (each_mapped (λ c. nesting c ≤ limit) IsHead (λ c. constant (all c)) (λ c h. (tt, h)) bases (offered_shallow offers scope)),
+              ),
+            ),
+          ),
+        )
+    logical-modest offers scope (suc n) true = ((tt, good.some), tt)
+    logical-modest offers scope (suc n) false = tt
 
-    heads-modest : (scope : Scope) (o : Option Hole) → Each IsHead (heads_for scope o)
-    heads-modest scope None = tt
-    heads-modest scope (Some h) =
+    given-modest : (offers : HeadOffers) (scope : Scope) (h : Hole) → Each IsHead (given_heads offers scope h)
+    given-modest offers scope h =
         let vars = map bound (places_to h.base 0 h.context) in
-        let names = map (λ k. constant (name k)) (places_to h.base 0 scope.names) in
+        let offered = filter (is_offered offers.names) (places_to h.base 0 scope.names) in
+        let names = map (λ k. constant (name k)) offered in
         let witnesses = map (λ k. constant (witness k)) (places_to h.base 0 scope.witnesses) in
-        each-joined IsHead (vars ++ names ++ witnesses) (logical_heads scope h.base)
-        (each-joined IsHead (vars ++ names) witnesses
-        (each-joined IsHead vars names (all_mapped IsHead bound (λ k. (tt, tt)) (places_to h.base 0 h.context)) (all_mapped IsHead (λ k. constant (name k)) (λ k. (tt, tt)) (places_to h.base 0 scope.names)))
-        (all_mapped IsHead (λ k. constant (witness k)) (λ k. (tt, tt)) (places_to h.base 0 scope.witnesses)))
-        (logical-modest scope h.base)
+        each-joined IsHead (vars ++ names) witnesses
+        (each-joined IsHead vars names (all_mapped IsHead bound (λ k. (tt, tt)) (places_to h.base 0 h.context)) (all_mapped IsHead (λ k. constant (name k)) (λ k. (tt, tt)) offered))
+        (all_mapped IsHead (λ k. constant (witness k)) (λ k. (tt, tt)) (places_to h.base 0 scope.witnesses))
+
+    heads-modest : (offers : HeadOffers) (scope : Scope) (o : Option Hole) → Each IsHead (heads_for offers scope o)
+    heads-modest offers scope None = tt
+    heads-modest offers scope (Some h) =
+        let given = given_heads offers scope h in
+        let chooses = offers.choices || is_none_given given in
+        each-joined IsHead given (logical_heads offers scope h.base chooses) (given-modest offers scope h) (logical-modest offers scope h.base chooses)
 
     -- PARTIAL TERMS
 
@@ -226,9 +242,9 @@ module _ (limit : ℕ) (setting : Setting) where
 
     pub opened-modest : (p : Sketch) (s : State) → IsModestPartial limit p.partial → Good s → Good (with_opening setting p s)
     opened-modest p s h g =
-        let heads = heads_for (scope_in setting s) (first_hole [] p.partial) in
+        let heads = heads_for s.offers (scope_in setting s) (first_hole [] p.partial) in
         pushed-modest (map (grow p) heads) (record s { parked = s.parked ++ p ∷ [] })
-        (each_mapped IsHead (IsModestCommand limit) (grow p) (λ t k. (h, k)) heads (heads-modest (scope_in setting s) (first_hole [] p.partial)))
+        (each_mapped IsHead (IsModestCommand limit) (grow p) (λ t k. (h, k)) heads (heads-modest s.offers (scope_in setting s) (first_hole [] p.partial)))
         (record { clauses = g.clauses; noted = g.noted; terms = g.terms; rows = g.rows; parked = each-joined _ s.parked (p ∷ []) g.parked (h, tt); queue = g.queue })
 
     begun-modest : (a : SimpleType) (s : State) → nesting a ≤ limit → Good s → Good (with_beginning setting a s)
