@@ -1,6 +1,6 @@
 -- What keeps a state modest: pushes, literals, instances, terms, partial terms.
 use Rattle.std.proofs.Common.{◌≡◌, ◌≤◌, ◌+◌, ◌&&◌, ℕ, zero, suc, Bool, true, false, List, [], ◌∷◌, ◌++◌, map, filter, Option, Some, None, refl, subst, if◌then◌else◌, arith}
-use Rattle.std.specs.Prelude.{unwrap_or, option_map, option_and_then}
+use Rattle.std.specs.Prelude.{◌||◌, unwrap_or, option_map, option_and_then}
 use Rattle.std.specs.List.{list_any, list_all, flat_map}
 use Rattle.std.proofs.lemmas.Bool.{and_parts}
 use Rattle.stt_core.specs.SimpleType.{SimpleType, base, arrow, formula, same_type}
