@@ -27,11 +27,12 @@ const SYNTAX_ERROR: &[u8] = b"% SZS status SyntaxError for ";
 
 const INPUT_ERROR: &[u8] = b"% SZS status InputError for ";
 
+/// What stands before the number of commands.
+const COMMANDS: &[u8] = b"% commands ";
+
 /// What stands before the size up to which there is no model.
 const NO_MODEL: &[u8] = b"% no model up to ";
 /// What stands before a size that has too many candidates for a model.
-const COMMANDS: &[u8] = b"% commands ";
-
 const TOO_MANY: &[u8] = b"% models too many at size ";
 
 const USAGE: &[u8] =

@@ -136,8 +136,7 @@ module _ (limit : ℕ) (setting : Setting) where
     logical-modest : (offers : HeadOffers) (scope : Scope) (n : ℕ) (chooses : Bool) → Each IsHead (logical_heads offers scope n chooses)
     logical-modest offers scope zero chooses =
         let bases = offered_bases offers scope in
-        let equality_shallow : nesting (base 0) ≤ limit = omega arith in
-        (
+        let equality_shallow : nesting (base 0) ≤ limit = omega arith in (
           (tt, tt),
           (
             (tt, tt),
