@@ -2,6 +2,7 @@
 use Rattle.std.specs.Prelude.{◌≡◌, ◌==◌, ◌<◌, ◌≤◌, ◌+◌, ◌||◌, ℕ, zero, suc, Bool, true, false, List, [], ◌∷◌, ◌++◌, map, take, drop, length, slice_get, Option, Some, None, option_map, refl}
 use Rattle.std.proofs.Common.{sym, ap, ap₂, ◌∙◌, arith, length-append}
 use Rattle.std.proofs.Math.Seq.{take-length}
+use Rattle.std.proofs.lemmas.Bool.{ne_eqb}
 use Rattle.std.proofs.lemmas.List.{length-map}
 use Rattle.std.proofs.lemmas.Option.{same_Some}
 use Rattle.stt_core.specs.SimpleType.{SimpleType, base}
@@ -32,7 +33,7 @@ use Rattle.prover_state.proofs.LoopLists.{begins-mapped}
 
 is_none-length : (ts : List Lambda) (n : ℕ) → n ≡ length ts → (n == 0) ≡ is_none_given ts
 is_none-length [] n e = ap (λ k. k == 0) e
-is_none-length (t ∷ ts) n e = ap (λ k. k == 0) e
+is_none-length (t ∷ ts) n e = ne_eqb n 0 (λ z. absurd (omega (arith, e, z)))
 
 length_own : (offers : HeadOffers) (scope : Scope) (n : ℕ) → n ≡ length (offered_bases offers scope) → (chooses : Bool) → n + n + 4 ≡ length (logical_heads offers scope 0 chooses)
 length_own offers scope n e chooses =

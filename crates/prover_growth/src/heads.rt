@@ -26,6 +26,13 @@ fn plus(m: usize, n: usize) -> Result<usize, AllocError>
     Ok(m + n)
 }
 
+/// Whether the choice fits a hole of a base type other than that of formulas, which so many other heads fit.
+fn choice_fits(tables: &Tables, given: usize) -> bool
+    ensures { result ≡ (tables.now.offers.choices || (given == 0)) }
+{
+    tables.offers.choices || given == 0
+}
+
 /// How many heads of the logic's own fit a hole of a base type, which so many other heads fit.
 fn count_logical(tables: &Tables, base: u32, given: usize) -> Result<usize, AllocError>
     requires right { (q : Queue Planned Delays) × IsRightState tables.now q }
@@ -36,10 +43,7 @@ fn count_logical(tables: &Tables, base: u32, given: usize) -> Result<usize, Allo
         let pairs = plus(bases, bases)?;
         return Ok(plus(pairs, 4)?);
     }
-    if tables.offers.choices {
-        return Ok(1);
-    }
-    if given == 0 {
+    if choice_fits(tables, given) {
         return Ok(1);
     }
     Ok(0)

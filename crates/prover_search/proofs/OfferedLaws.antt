@@ -1,10 +1,19 @@
 -- What occurs in literals, as they are by numbers and without repeats.
-use Rattle.std.specs.Prelude.{◌≡◌, ◌||◌, Bool, true, false, List, [], ◌∷◌, ◌++◌, map, filter, refl, if◌then◌else◌}
-use Rattle.std.specs.List.{list_any}
-use Rattle.std.proofs.Common.{sym, ap, ap₂, ◌∙◌}
+use Rattle.std.specs.Prelude.{◌≡◌, ◌<◌, ◌≤◌, ◌+◌, ◌||◌, ℕ, Bool, true, false, List, [], ◌∷◌, ◌++◌, map, filter, take, length, get_or, slice_get, Some, refl, if◌then◌else◌}
+use Rattle.std.specs.List.{All, list_any}
+use Rattle.std.proofs.Common.{sym, ap, ap₂, subst, ◌∙◌, arith, append-nil}
+use Rattle.std.proofs.lemmas.Bool.{le-leb, lt-leb}
+use Rattle.std.proofs.lemmas.List.{take_more}
+use Rattle.std.proofs.lemmas.Option.{get_or_from_slice_get}
 use Rattle.std.proofs.lemmas.List.Elements.{filter-append}
 use Rattle.std.proofs.lemmas.List.Folds.{list_any-append}
+use Rattle.stt_core.specs.Depth.{depth}
 use Rattle.stt_core.specs.Lambda.{Constant, Lambda}
+use Rattle.stt_core.proofs.ListLaws.{map-append}
+use Rattle.sat_base.specs.declared.literal.SatLit.{SatLit}
+use Rattle.term_bank.specs.Content.{Content}
+use Rattle.term_bank.specs.Terms.{term_at}
+use Rattle.literal_map.specs.Atoms.{bank_literal, IsAtom}
 use Rattle.tableau_calculus.specs.Literals.{Literal}
 use Rattle.tableau_calculus.specs.Kinds.{has, added, same_signed, formulas}
 use Rattle.tableau_calculus.proofs.AddedLaws.{same_literal-true}
@@ -12,6 +21,7 @@ use Rattle.tableau_calculus.specs.Start.{without_repeats}
 use Rattle.search_spec.specs.Offers.{has_constant, has_in_start}
 use Rattle.search_spec.specs.Shallow.{is_shallow_literal}
 use Rattle.head_offers.specs.Offering.{occurs_among}
+use Rattle.prover_state.specs.Internal.Names.{IsNumberIn}
 
 or_true : (b : Bool) → (b || true) ≡ true
 or_true true = refl
@@ -72,3 +82,45 @@ occurs-start ls ts are test =
     ap (λ (us : List Lambda). occurs_among us test) are
     ∙ among_atoms test (filter is_shallow_literal ls)
     ∙ sym (any_added (λ l. has_constant test l.atom) [] ls)
+
+-- ONE AFTER THE OTHER
+
+pub atom-within : (b : Content) (atoms : List ℕ) (start : List SatLit) (i : ℕ) (d : SatLit) → i < length start → All (IsAtom b) atoms → All (IsNumberIn atoms) start → (atom : ℕ) → slice_get atoms (get_or start i d).var.0 ≡ Some atom → atom < length b.terms
+atom-within b atoms start i d l good numbers atom at =
+    subst (λ n. n < length b.terms) (get_or_from_slice_get atoms (get_or start i d).var.0 atom 0 at) (good (get_or start i d).var.0 0 (numbers i d l)).within
+
+module _ (ts : List Lambda) (atoms : List ℕ) (start : List SatLit) where
+  abbrev literals : ℕ → List Literal
+  literals n = map (bank_literal ts atoms) (take n start)
+
+  -- numbers of the atoms of the first literals that aren't too deep
+  abbrev pub AreAtoms : ℕ → List ℕ → Type 0
+  AreAtoms n ids = map (term_at ts) ids ≡ map (λ l. l.atom) (filter is_shallow_literal (literals n))
+
+  module _ (i : ℕ) (d : SatLit) (within : i < length start) (atom n : ℕ) (at : slice_get atoms (get_or start i d).var.0 ≡ Some atom) (deep : n ≡ depth (term_at ts atom)) where
+    abbrev next : Literal
+    next = bank_literal ts atoms (get_or start i d)
+
+    atom_is : next.atom ≡ term_at ts atom
+    atom_is = ap (term_at ts) (get_or_from_slice_get atoms (get_or start i d).var.0 atom 0 at)
+
+    literals_more : literals (i + 1) ≡ literals i ++ next ∷ []
+    literals_more = ap (map (bank_literal ts atoms)) (take_more start i d within) ∙ map-append (bank_literal ts atoms) (take i start) (get_or start i d ∷ [])
+
+    shallow_more : (b : Bool) → is_shallow_literal next ≡ b → map (λ l. l.atom) (filter is_shallow_literal (literals (i + 1))) ≡ map (λ l. l.atom) (filter is_shallow_literal (literals i)) ++ map (λ l. l.atom) (if b then next ∷ [] else [])
+    shallow_more b e =
+        ap (λ ls. map (λ l. l.atom) (filter is_shallow_literal ls)) literals_more
+        ∙ ap (map (λ l. l.atom)) (filter-append is_shallow_literal (literals i) (next ∷ []) ∙ ap (λ (c : Bool). filter is_shallow_literal (literals i) ++ (if c then next ∷ [] else [])) e)
+        ∙ map-append (λ l. l.atom) (filter is_shallow_literal (literals i)) (if b then next ∷ [] else [])
+
+    deep_is : depth next.atom ≡ n
+    deep_is = ap depth atom_is ∙ sym deep
+
+    pub atom-taken : n ≤ 4096 → (old new : List ℕ) → new ≡ old ++ atom ∷ [] → AreAtoms i old → AreAtoms (i + 1) new
+    atom-taken h old new is are =
+        ap (map (term_at ts)) is ∙ map-append (term_at ts) old (atom ∷ [])
+        ∙ ap₂ (λ xs t. xs ++ t ∷ []) are (sym atom_is)
+        ∙ sym (shallow_more true (le-leb (depth next.atom) 4096 (omega (arith, h, deep_is))))
+
+    pub atom-passed : 4096 < n → (old : List ℕ) → AreAtoms i old → AreAtoms (i + 1) old
+    atom-passed h old are = are ∙ sym (shallow_more false (lt-leb (depth next.atom) 4096 (omega (arith, h, deep_is))) ∙ append-nil (map (λ l. l.atom) (filter is_shallow_literal (literals i))))

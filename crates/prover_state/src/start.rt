@@ -72,7 +72,7 @@ impl<W: Weigher<Waiting>> Core<W> {
         ensures mode { IfOk result (λ core. core.plan.rule.mode ≡ mode) }
         ensures steps { IfOk result (λ core. core.tables.steps ≡ ([], [])) }
     {
-        match Offered::new(alloc, basis.bank.sig(), &offers) {
+        match Offered::listed(alloc, basis.bank.sig(), &offers) {
             Ok(offered) => Ok(Core {
                 tables: empty_tables(alloc, basis, offers, offered),
                 plan: Plan::new(alloc, mode, weigher),

@@ -10,5 +10,5 @@ use Rattle.prover_state.proofs.offers.names_by_target.Given as goal
 abbrev pub invariant-loop-i : goal.invariant-loop-i
 invariant-loop-i l = record {
   below : (n : ℕ) → Each (λ k. k < l.i) (ids_of (base n) l.names);
-  all : (n : ℕ) → ids_of (base n) l.names ++ filter (is_offered l.flags.now) (places_to n l.i (drop l.i (map (λ c. c.type) l.consts))) ≡ filter (is_offered l.flags.now) (places_to n 0 (map (λ c. c.type) l.consts));
+  all : (n : ℕ) → ids_of (base n) l.names ++ filter (is_offered l.flags) (places_to n l.i (drop l.i (map (λ c. c.type) l.consts))) ≡ filter (is_offered l.flags) (places_to n 0 (map (λ c. c.type) l.consts));
 }

@@ -31,7 +31,7 @@ logical_head-requires c =
     let below = IsPartitionPoint-from_clause (λ y. ltb y c.args.witnesses) takers k c.partition_point-count.ensures.partitioned (IsPartitionedBy-ltb (λ i. i) takers c.args.witnesses ascend) (λ a r f' k. search rules) in
     let splits = splits-from c.args.witnesses takers k c.partition_point-count.ensures.bound below in
     let S : List ℕ → Type 0 = λ xs. SplitsAt c.args.witnesses xs k in
-    subst (λ (bs : List ℕ). c.args.place - k < length (logical_for (map base bs) c.args.base)) (sym c.as_slice.ensures)
+    subst (λ (bs : List ℕ). c.args.place - k < length (logical_for (map base bs) c.args.base)) (sym c.as_slice.ensures.value)
     (logical-below t c.requires.right.0 c.requires.right.1 c.args.base c.args.witnesses c.requires.few k (subst S c.terms_of-takers.ensures splits) c.args.place (omega (arith, c.if-place-count.false)) c.requires.within)
 
 pub returns : goal.returns
@@ -44,4 +44,4 @@ returns c =
     let splits = splits-from c.args.witnesses takers k c.partition_point-count.ensures.bound below in
     let S : List ℕ → Type 0 = λ xs. SplitsAt c.args.witnesses xs k in
     logical-there t c.requires.right.0 c.requires.right.1 c.args.base c.args.witnesses c.requires.few k (subst S c.terms_of-takers.ensures splits) c.args.place (the_hole_head c.logical_head.result) (omega (arith, c.if-place-count.false))
-    (ap (λ (bs : List ℕ). slice_get (logical_for (map base bs) c.args.base) (c.args.place - k)) (sym c.as_slice.ensures) ∙ c.logical_head.ensures)
+    (ap (λ (bs : List ℕ). slice_get (logical_for (map base bs) c.args.base) (c.args.place - k)) (sym c.as_slice.ensures.value) ∙ c.logical_head.ensures)
