@@ -26,11 +26,13 @@ impl Head {
         ensures place { (self.new.start ≡ self.old.start) × (self.new.len ≡ self.old.len) }
         ensures pair { (literals : List SatLit) (other : SatLit) → IsPair (with_head literals self.old) from other → IsPair (with_head literals self.new) to other }
     {
-        if self.first.is(from) {
-            self.first = to;
+        let kept = if self.first.is(from) {
+            self.second
         } else {
-            self.second = to;
-        }
+            self.first
+        };
+        self.first = kept;
+        self.second = to;
     }
 }
 

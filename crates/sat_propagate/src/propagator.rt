@@ -219,31 +219,31 @@ impl Propagator {
         if self.trail.affirms(other) {
             return Finding::Satisfied(other);
         }
-        match self.replacement(self.clauses.literals(n), falsified, other) {
+        match self.replacement(self.clauses.literals(n), other) {
             Some(literal) => Finding::Other(literal),
             None if self.trail.denies(other) => Finding::False,
             None => Finding::Unit(other.literal()),
         }
     }
 
-    /// A literal that is not false, other than these two.
-    fn replacement(&self, among: &[Packed], a: Packed, b: Packed) -> Option<Packed>
-        ensures some { IfSome result (λ l. IsTrue (holds among.now l) × (l ≢ a) × (l ≢ b) × (holds (literals self.now.trail.steps) (negated l) ≡ false)) }
-        ensures none { IfNone result ((l : SatLit) → IsTrue (holds among.now l) → l ≢ a → l ≢ b → IsTrue (holds (literals self.now.trail.steps) (negated l))) }
+    /// A literal that is not false, other than this one.
+    fn replacement(&self, among: &[Packed], other: Packed) -> Option<Packed>
+        ensures some { IfSome result (λ l. IsTrue (holds among.now l) × (l ≢ other) × (holds (literals self.now.trail.steps) (negated l) ≡ false)) }
+        ensures none { IfNone result ((l : SatLit) → IsTrue (holds among.now l) → l ≢ other → IsTrue (holds (literals self.now.trail.steps) (negated l))) }
     {
         for packed in among {
-            if self.is_free(*packed, a, b) {
+            if self.is_free(*packed, other) {
                 return Some(*packed);
             }
         }
         None
     }
 
-    fn is_free(&self, literal: Packed, a: Packed, b: Packed) -> bool
-        ensures yes { IsTrue result → (literal ≢ a) × (literal ≢ b) × (holds (literals self.now.trail.steps) (negated literal) ≡ false) }
-        ensures no { result ≡ false → literal ≢ a → literal ≢ b → IsTrue (holds (literals self.now.trail.steps) (negated literal)) }
+    fn is_free(&self, literal: Packed, other: Packed) -> bool
+        ensures yes { IsTrue result → (literal ≢ other) × (holds (literals self.now.trail.steps) (negated literal) ≡ false) }
+        ensures no { result ≡ false → literal ≢ other → IsTrue (holds (literals self.now.trail.steps) (negated literal)) }
     {
-        !self.trail.denies(literal) && !literal.is(a) && !literal.is(b)
+        !self.trail.denies(literal) && !literal.is(other)
     }
 
     /// Watches a literal in place of another one.

@@ -8,9 +8,9 @@ use Rattle.sat_propagate.proofs.propagator.Propagator.replacement.Goals as goal
 pub loop-packed-preserved : goal.loop-packed-preserved
 loop-packed-preserved c =
     let here : SatLit = get_or c.args.among.now c.loop-packed.packed-index c.packed-item.result in
-    let last : here ≢ c.args.a → here ≢ c.args.b → IsTrue (holds (literals c.args.self.now.trail.steps) (negated here)) =
-    subst (λ (k : SatLit). k ≢ c.args.a → k ≢ c.args.b → IsTrue (holds (literals c.args.self.now.trail.steps) (negated k))) c.packed-item.is (c.is_free.ensures.no c.if-is_free.false) in
-    λ m h apart_a apart_b. elim (held_more c.args.among.now c.loop-packed.packed-index c.packed-item.result m c.loop-packed-test.true h) [
-      | inl before ↦ c.loop-packed.invariant m before apart_a apart_b
-      | inr same ↦ subst (λ (k : SatLit). k ≢ c.args.a → k ≢ c.args.b → IsTrue (holds (literals c.args.self.now.trail.steps) (negated k))) (sym same) last apart_a apart_b
+    let last : here ≢ c.args.other → IsTrue (holds (literals c.args.self.now.trail.steps) (negated here)) =
+    subst (λ (k : SatLit). k ≢ c.args.other → IsTrue (holds (literals c.args.self.now.trail.steps) (negated k))) c.packed-item.is (c.is_free.ensures.no c.if-is_free.false) in
+    λ m h apart. elim (held_more c.args.among.now c.loop-packed.packed-index c.packed-item.result m c.loop-packed-test.true h) [
+      | inl before ↦ c.loop-packed.invariant m before apart
+      | inr same ↦ subst (λ (k : SatLit). k ≢ c.args.other → IsTrue (holds (literals c.args.self.now.trail.steps) (negated k))) (sym same) last apart
     ]

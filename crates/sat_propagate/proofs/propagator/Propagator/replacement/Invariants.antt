@@ -6,4 +6,4 @@ use Rattle.sat_propagate.proofs.propagator.Propagator.replacement.Given as goal
 
 abbrev pub invariant-loop-packed : goal.invariant-loop-packed
 invariant-loop-packed l =
-    (m : SatLit) → IsTrue (holds (take l.packed-index l.among) m) → m ≢ l.a → m ≢ l.b → IsTrue (holds (literals l.self.trail.steps) (negated m))
+    (m : SatLit) → IsTrue (holds (take l.packed-index l.among) m) → m ≢ l.other → IsTrue (holds (literals l.self.trail.steps) (negated m))
