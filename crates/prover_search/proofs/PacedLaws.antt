@@ -77,7 +77,7 @@ module _ (setting : Setting) (short : AreShort setting) (n : ℕ) where
   with_terms-paced a (u ∷ us) s g = with_terms-paced a us (with_term setting.mode a u s) (with_term-paced a u s g)
 
   opened-paced : (p : Sketch) (s : State) → Good s → Good (with_opening setting p s)
-  opened-paced p s g = pushed-paced (map (grow p) (heads_for (scope_in setting s) (first_hole [] p.partial))) (record s { parked = s.parked ++ p ∷ [] }) g
+  opened-paced p s g = pushed-paced (map (grow p) (heads_for s.offers (scope_in setting s) (first_hole [] p.partial))) (record s { parked = s.parked ++ p ∷ [] }) g
 
   begun-paced : (a : SimpleType) (s : State) → Good s → Good (with_beginning setting a s)
   begun-paced (base k) s g = with_terms-paced (base k) (first_terms (base k)) s g
