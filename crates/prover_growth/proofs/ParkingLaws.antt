@@ -9,6 +9,7 @@ use Rattle.stt_core.proofs.ListLaws.{map-append, slice_get-end}
 use Rattle.command_queue.specs.Queue.{Queue}
 use Rattle.search_spec.specs.Partial.{Hole, hole, first_hole}
 use Rattle.search_spec.specs.Heads.{heads_for}
+use Rattle.head_offers.specs.Offering.{the_offers}
 use Rattle.search_spec.specs.State.{Sketch, grow, with_commands}
 use Rattle.search_spec.specs.Terms.{with_opening}
 use Rattle.search_spec.specs.Witness.{is_hole_of, has_hole_of}
@@ -136,6 +137,7 @@ module _ (t : Tables) (q : Queue Planned Delays) (r : IsRightState t q) (stem : 
         terms = itself (sources t).terms;
         rows = itself (sources t).rows;
         parked = (newest ∷ [], sketches-more);
+        offers = refl;
       }
 
       loops_same : loops_in t' q.entries ≡ loops_in t q.entries
@@ -161,7 +163,7 @@ module _ (t : Tables) (q : Queue Planned Delays) (r : IsRightState t q) (stem : 
         terms = r.terms;
         chosen = r.chosen;
         described = r.described;
-        names = r.names;
+        offered = r.offered;
         takers = r.takers;
         stems = subst (AreStems (scope_by t.basis) []) (sym stems) (stems-last (scope_by t.basis) [] t.stems.items stem r.stems is);
         open_holes =
@@ -189,10 +191,10 @@ module _ (t : Tables) (q : Queue Planned Delays) (r : IsRightState t q) (stem : 
 
   -- with the heads that fit it is opened
   pub opened-newest : (t1 : Tables) (q1 : Queue Planned Delays) (p : ℕ) (are : sketches_in t1 ≡ sketches_in t ++ newest ∷ []) (same : t1.basis ≡ t.basis) (plan : q1 ≡ q) (place : p ≡ length t.stems.items) → the_state t1 q1 ≡ record (the_state t q) { parked = (the_state t q).parked ++ newest ∷ [] }
-      → with_commands q1.rule.mode (map (grow (sketch_at (sketches_in t1) p)) (heads_for (scope_by t1.basis) (first_hole [] (sketch_at (sketches_in t1) p).partial))) (the_state t1 q1) ≡ with_opening (setting_by t q) newest (the_state t q)
+      → with_commands q1.rule.mode (map (grow (sketch_at (sketches_in t1) p)) (heads_for (the_offers t1.offers) (scope_by t1.basis) (first_hole [] (sketch_at (sketches_in t1) p).partial))) (the_state t1 q1) ≡ with_opening (setting_by t q) newest (the_state t q)
   opened-newest t1 q1 p are same plan place state =
       let x = newest-at (sketches_in t1) p are place in
-      λ i. with_commands (plan i).rule.mode (map (grow (x i)) (heads_for (scope_by (same i)) (first_hole [] (x i).partial))) (state i)
+      λ i. with_commands (plan i).rule.mode (map (grow (x i)) (heads_for (state i).offers (scope_by (same i)) (first_hole [] (x i).partial))) (state i)
 
   -- the same after the writes, one after the other
   module _ (t1 t2 t3 : Tables) (e1 : t1 ≡ record t { open_holes = t1.open_holes }) (e2 : t2 ≡ record t1 { roots = t2.roots }) (e3 : t3 ≡ record t2 { holes = t3.holes }) (p : ℕ) (place : p ≡ length t.stems.items) (holes : t1.open_holes ≡ t.open_holes ++ holes_in [] newest.partial ∷ []) where

@@ -32,6 +32,8 @@ use Rattle.prover_state.specs.Internal.Growing.{Longer, Continues, BasisGrows, B
 use Rattle.prover_state.specs.Internal.Heads.{sketches_of, AreStems}
 use Rattle.prover_state.specs.Internal.Holes.{holes_in}
 use Rattle.prover_state.specs.Internal.Names.{IsNumberIn, IsPlace}
+use Rattle.head_offers.specs.Offering.{the_offers}
+use Rattle.prover_state.specs.Internal.Offering.{ListsOffers}
 use Rattle.prover_state.specs.Internal.Pending.{loop_at, IsEntry}
 use Rattle.prover_state.specs.Internal.Standing.{without_witnesses, rows_in, scope_by, sketches_in, naming_in, sources, loops_in, the_state, is_universal, can_pair, places_where, IsBasis, IsRightState}
 use Rattle.prover_state.proofs.EachLaws.{each-weaker, each-from_All, map-same}
@@ -111,6 +113,7 @@ module _ (t : Tables) (q : Queue Planned Delays) (g : Basis) (w : BasisWidens t.
     terms = itself (sources t).terms (sources widened).terms (ap (λ (s : State). s.terms) between_same);
     rows = rows-longer t.basis g w r.basis;
     parked = itself (sources t).parked (sources widened).parked sketches_stay;
+    offers = refl;
   }
 
   loops_same : loops_in widened q.entries ≡ loops_in t q.entries
@@ -152,7 +155,7 @@ module _ (t : Tables) (q : Queue Planned Delays) (g : Basis) (w : BasisWidens t.
         index = index_stays;
         paired = r.paired ∙ filter-same (can_pair t.basis.bank.terms t.basis.lits) (can_pair g.bank.terms g.lits) (IsNumberIn t.basis.lits) pair_stays t.noted.items r.noted;
         universals = λ a. r.universals a ∙ places-same (is_universal t.basis.bank.terms t.basis.lits a) (is_universal g.bank.terms g.lits a) (IsNumberIn t.basis.lits) (universal_stays a) 0 t.noted.items r.noted;
-        names = λ n. r.names n ∙ ap (λ (scope : Scope). places_to n 0 scope.names) (sym (scope-stays t.basis g w r.basis));
+        offered = subst (ListsOffers (the_offers t.offers) t.names t.bases.items) (sym (scope-stays t.basis g w r.basis)) r.offered;
         takers = listed;
         terms = each-weaker (λ (u : Listing). IsPlace t.basis.bank.terms u.1) (λ (u : Listing). IsPlace g.bank.terms u.1) (λ u h. place_stays u.1 h) t.terms r.terms;
         chosen = each-weaker (IsPlace t.basis.bank.terms) (IsPlace g.bank.terms) place_stays t.chosen r.chosen;

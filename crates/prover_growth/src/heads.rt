@@ -1,12 +1,13 @@
 //! The heads that fit the first hole of a partial term.
-ghost use Rattle.std.specs.Prelude.{◌≡◌, ◌<◌, ◌+◌, [], length, map, IfOk, OnOk};
+ghost use Rattle.std.specs.Prelude.{◌≡◌, ◌==◌, ◌<◌, ◌+◌, ◌||◌, [], length, map, IfOk, OnOk};
 ghost use Rattle.command_queue.specs.Queue.{Queue};
-ghost use Rattle.search_spec.specs.Heads.{places_to, heads_for};
+ghost use Rattle.search_spec.specs.Heads.{places_to, logical_heads, heads_for};
+ghost use Rattle.head_offers.specs.Offering.{the_offers};
 ghost use Rattle.search_spec.specs.Partial.{first_hole};
 ghost use Rattle.search_spec.specs.State.{grow, with_commands};
 ghost use Rattle.prover_state.specs.declared.command.Planned.{Planned};
 ghost use Rattle.prover_state.specs.declared.command.Delays.{Delays};
-ghost use Rattle.prover_state.specs.Internal.Fitting.{logical_for, later_heads};
+ghost use Rattle.prover_state.specs.Internal.Fitting.{names_for};
 ghost use Rattle.prover_state.specs.Internal.Names.{sketch_at};
 ghost use Rattle.prover_state.specs.Internal.Standing.{scope_by, sketches_in, the_state, IsRightState};
 
@@ -25,49 +26,52 @@ fn plus(m: usize, n: usize) -> Result<usize, AllocError>
     Ok(m + n)
 }
 
-/// How many heads of the logic's own have a base type as their target, over so many base types.
-fn count_logical(bases: usize, base: u32) -> Result<usize, AllocError>
-    ensures { IfOk result (λ n. n ≡ length (logical_for bases base)) }
+/// Whether the choice fits a hole of a base type other than that of formulas, which so many other heads fit.
+fn choice_fits(tables: &Tables, given: usize) -> bool
+    ensures { result ≡ (tables.now.offers.choices || (given == 0)) }
 {
-    if base > 0 {
+    tables.offers.choices || given == 0
+}
+
+/// How many heads of the logic's own fit a hole of a base type, which so many other heads fit.
+fn count_logical(tables: &Tables, base: u32, given: usize) -> Result<usize, AllocError>
+    requires right { (q : Queue Planned Delays) × IsRightState tables.now q }
+    ensures { IfOk result (λ n. n ≡ length (logical_heads (the_offers tables.now.offers) (scope_by tables.now.basis) base (tables.now.offers.choices || (given == 0)))) }
+{
+    if base == 0 {
+        let bases = tables.bases.len();
+        let pairs = plus(bases, bases)?;
+        return Ok(plus(pairs, 4)?);
+    }
+    if choice_fits(tables, given) {
         return Ok(1);
     }
-    let pairs = plus(bases, bases)?;
-    Ok(plus(pairs, 6)?)
+    Ok(0)
 }
 
-/// How many witnesses and heads of the logic's own have a base type as their target.
-fn count_later(tables: &Tables, base: u32) -> Result<usize, AllocError>
-    requires right { (q : Queue Planned Delays) × IsRightState tables.now q }
-    ensures { IfOk result (λ n. n ≡ length (later_heads (scope_by tables.now.basis) base)) }
-{
-    let takers = tables.takers.terms_of(&Ty::Base(base));
-    let bases = tables.basis.bank.sig().bases.len();
-    let logical = count_logical(bases, base)?;
-    Ok(plus(takers.len(), logical)?)
-}
-
-/// How many names, witnesses and heads of the logic's own have a base type as their target.
+/// How many names and witnesses fit a hole of a base type.
 fn count_constants(tables: &Tables, base: u32) -> Result<usize, AllocError>
     requires right { (q : Queue Planned Delays) × IsRightState tables.now q }
-    ensures { IfOk result (λ n. n ≡ length (places_to base 0 (scope_by tables.now.basis).names) + length (later_heads (scope_by tables.now.basis) base)) }
+    ensures { IfOk result (λ n. n ≡ length (names_for (the_offers tables.now.offers) (scope_by tables.now.basis) base) + length (places_to base 0 (scope_by tables.now.basis).witnesses)) }
 {
     let names = tables.names.terms_of(&Ty::Base(base));
-    let later = count_later(tables, base)?;
-    Ok(plus(names.len(), later)?)
+    let takers = tables.takers.terms_of(&Ty::Base(base));
+    Ok(plus(names.len(), takers.len())?)
 }
 
 /// How many heads fit the first hole of a partial term.
 fn count_heads(tables: &Tables, p: usize) -> Result<usize, AllocError>
     requires right { (q : Queue Planned Delays) × IsRightState tables.now q }
     requires number { p < length (sketches_in tables.now) }
-    ensures { IfOk result (λ n. n ≡ length (heads_for (scope_by tables.now.basis) (first_hole [] (sketch_at (sketches_in tables.now) p).partial))) }
+    ensures { IfOk result (λ n. n ≡ length (heads_for (the_offers tables.now.offers) (scope_by tables.now.basis) (first_hole [] (sketch_at (sketches_in tables.now) p).partial))) }
 {
     match tables.open_holes.first_base(p) {
         Some(base) => {
             let variables = tables.open_holes.variables(tables.alloc, p)?;
             let constants = count_constants(tables, base)?;
-            Ok(plus(variables.len(), constants)?)
+            let given = plus(variables.len(), constants)?;
+            let logical = count_logical(tables, base, given)?;
+            Ok(plus(given, logical)?)
         }
         None => Ok(0),
     }
@@ -80,7 +84,7 @@ pub(crate) fn push_heads<W: Weigher<Waiting>>(
 ) -> Result<(), AllocError>
     requires right { IsRightState core.old.tables core.old.plan }
     requires number { p < length (sketches_in core.old.tables) }
-    ensures state { OnOk result (let q = sketch_at (sketches_in core.old.tables) p in the_state core.new.tables core.new.plan ≡ with_commands core.old.plan.rule.mode (map (grow q) (heads_for (scope_by core.old.tables.basis) (first_hole [] q.partial))) (the_state core.old.tables core.old.plan)) }
+    ensures state { OnOk result (let q = sketch_at (sketches_in core.old.tables) p in the_state core.new.tables core.new.plan ≡ with_commands core.old.plan.rule.mode (map (grow q) (heads_for (the_offers core.old.tables.offers) (scope_by core.old.tables.basis) (first_hole [] q.partial))) (the_state core.old.tables core.old.plan)) }
     ensures right { OnOk result (IsRightState core.new.tables core.new.plan) }
     ensures tables { core.new.tables ≡ core.old.tables }
     ensures rule { OnOk result (core.new.plan.rule ≡ core.old.plan.rule) }

@@ -25,6 +25,7 @@ use Rattle.tableau_clauses.specs.Table.{the_clauses}
 use Rattle.search_spec.specs.Shallow.{is_shallow_literal}
 use Rattle.search_spec.specs.Unsatisfiable.{Clause}
 use Rattle.search_spec.specs.State.{State, Setting, process, with_commands}
+use Rattle.search_spec.specs.Offers.{offered_heads}
 use Rattle.search_spec.specs.After.{nothing_yet, next_state, state_after}
 use Rattle.search_spec.specs.Result.{GoesOn, GoesOnUntil, IsExhausted, IsStopped}
 use Rattle.command_queue.specs.Queue.{Queue}
@@ -149,7 +150,7 @@ filter_again test (x ∷ xs) = go (test x) refl (filter_again test xs)
 
 -- literals that are too deep don't count
 pub after_shallow : (setting : Setting) (ls : List Literal) (n : ℕ) → state_after setting (filter is_shallow_literal ls) n ≡ state_after setting ls n
-after_shallow setting ls zero = ap (λ ks. Some (with_commands setting.mode (map process ks) (record nothing_yet { clauses = map (λ l. l ∷ []) ks; seen = ks }))) (filter_again is_shallow_literal ls)
+after_shallow setting ls zero = ap (λ ks. Some (with_commands setting.mode (map process ks) (record nothing_yet { clauses = map (λ l. l ∷ []) ks; seen = ks; offers = offered_heads setting.mode setting.scope ks }))) (filter_again is_shallow_literal ls)
 after_shallow setting ls (suc n) = ap (next_state setting) (after_shallow setting ls n)
 
 module _ (setting : Setting) (ls : List Literal) where

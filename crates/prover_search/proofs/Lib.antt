@@ -3,6 +3,7 @@ mod MadeStays
 mod DevelopLaws
 mod UnitLaws
 mod PacedLaws
+mod OfferedLaws
 mod RunLaws
 mod StartLaws
 mod StartingLaws

@@ -22,7 +22,7 @@ use Rattle.search_spec.specs.State.{State, Setting, Sketch, Command, process, ma
 use Rattle.tableau_calculus.specs.Rules.{Alternatives, imp_pos, imp_neg, bool_pos, bool_neg, fun_pos, fun_neg, all_pos, all_neg, differ, con, cho, des}
 use Rattle.search_spec.specs.Instances.{with_literal, with_literals, with_instance}
 use Rattle.search_spec.specs.Terms.{terms_of, universals, with_term, with_terms, with_opening, first_terms}
-use Rattle.search_spec.specs.Offers.{is_prepared, early_terms, offered_witness, offered_sides}
+use Rattle.search_spec.specs.Offers.{is_prepared, early_terms, offered_witness, offered_sides, offered_heads}
 use Rattle.search_spec.specs.Preparing.{with_beginning, with_preparation}
 use Rattle.search_spec.specs.Partners.{matings, confrontations}
 use Rattle.search_spec.specs.Selections.{Selection, by_choice, by_description, selections_in, with_selection, with_selections}
@@ -226,7 +226,7 @@ module _ (setting : Setting) (short : AreShort setting) where
   started-paced : (start : List Literal) → IsPaced 0 (starting_state setting start)
   started-paced start =
       let ls = filter is_shallow_literal start in
-      pushed-paced setting short 0 (map process ls) (record nothing_yet { clauses = map (λ l. l ∷ []) ls; seen = ls }) (refl, omega arith, tt)
+      pushed-paced setting short 0 (map process ls) (record nothing_yet { clauses = map (λ l. l ∷ []) ls; seen = ls; offers = offered_heads setting.mode setting.scope ls }) (refl, omega arith, tt)
 
   -- no command of a run is due late
   pub after-paced : (start : List Literal) (n : ℕ) (s : State) → state_after setting start n ≡ Some s → IsPaced n s

@@ -16,7 +16,9 @@ use Rattle.search_spec.specs.Queue.{new_entries}
 use Rattle.command_queue.specs.declared.entry.Entry.{Entry}
 use Rattle.search_spec.specs.State.{State, Setting, Command, process, due, with_commands}
 use Rattle.search_spec.specs.Instances.{with_literals, with_instance}
-use Rattle.search_spec.specs.After.{nothing_yet, starting_state}
+use Rattle.search_spec.specs.After.{nothing_yet}
+use Rattle.search_spec.specs.Heads.{HeadOffers}
+use Rattle.prover_search.specs.Internal.Starting.{start_offering}
 
 -- the clauses of an alternative alone, which is a literal
 pub alone-clauses : {L : Type 0} (kind : Kind L) (l : L) → kind.same (kind.opposite l) l ≡ false → instance_clauses kind [] ((l ∷ []) ∷ []) ≡ (l ∷ []) ∷ []
@@ -101,9 +103,9 @@ has-filter l (k ∷ ks) shallow e = by_test (same_signed l k) refl e (λ h. has-
         ∙ ap (λ (b : Bool). b || has formulas (filter is_shallow_literal ks) l) same
     by_test false same h rest = with_depth (is_shallow_literal k) (rest h)
 
-module _ (setting : Setting) where
+module _ (offers : HeadOffers) (setting : Setting) where
   abbrev blank : List Literal → State
-  blank ls = record nothing_yet { clauses = map unit ls; seen = ls }
+  blank ls = record nothing_yet { clauses = map unit ls; seen = ls; offers = offers }
 
   abbrev begun : List Literal → State
   begun ls = with_commands setting.mode (map process ls) (blank ls)
@@ -131,31 +133,31 @@ module _ (setting : Setting) where
   abbrev with_all : List Literal → Literal → State
   with_all xs l = with_literals setting.mode (l ∷ []) (with_clause (shallow xs) l)
 
-  with_test : (xs : List Literal) (l : Literal) (b : Bool) → is_shallow_literal l ≡ b → (if (b && true) && true then with_all xs l else begun (shallow xs)) ≡ with_instance setting.mode [] ((l ∷ []) ∷ []) (starting_state setting xs)
+  with_test : (xs : List Literal) (l : Literal) (b : Bool) → is_shallow_literal l ≡ b → (if (b && true) && true then with_all xs l else begun (shallow xs)) ≡ with_instance setting.mode [] ((l ∷ []) ∷ []) (start_offering offers setting xs)
   with_test xs l b e = sym (ap (λ (c : Bool). if (c && true) && true then with_all xs l else begun (shallow xs)) e)
 
   -- a start with one literal more
-  pub started-last : (xs : List Literal) (l : Literal) → has formulas xs l ≡ false → starting_state setting (xs ++ l ∷ []) ≡ with_instance setting.mode [] ((l ∷ []) ∷ []) (starting_state setting xs)
+  pub started-last : (xs : List Literal) (l : Literal) → has formulas xs l ≡ false → start_offering offers setting (xs ++ l ∷ []) ≡ with_instance setting.mode [] ((l ∷ []) ∷ []) (start_offering offers setting xs)
   started-last xs l fresh = by_depth (is_shallow_literal l) refl
     where
       filtered : (b : Bool) → is_shallow_literal l ≡ b → shallow (xs ++ l ∷ []) ≡ shallow xs ++ (if b then l ∷ [] else [])
       filtered b e = filter-append is_shallow_literal xs (l ∷ []) ∙ ap (λ (c : Bool). shallow xs ++ (if c then l ∷ [] else [])) e
 
-      by_depth : (b : Bool) → is_shallow_literal l ≡ b → starting_state setting (xs ++ l ∷ []) ≡ with_instance setting.mode [] ((l ∷ []) ∷ []) (starting_state setting xs)
+      by_depth : (b : Bool) → is_shallow_literal l ≡ b → start_offering offers setting (xs ++ l ∷ []) ≡ with_instance setting.mode [] ((l ∷ []) ∷ []) (start_offering offers setting xs)
       by_depth true e = ap begun (filtered true e) ∙ begun_last (shallow xs) l (none_filtered l xs fresh) ∙ with_test xs l true e
       by_depth false e = ap begun (filtered false e ∙ append-nil (shallow xs)) ∙ with_test xs l false e
 
   -- a literal that is there already changes nothing
-  pub started-again : (xs : List Literal) (l : Literal) → has formulas xs l ≡ true → with_instance setting.mode [] ((l ∷ []) ∷ []) (starting_state setting xs) ≡ starting_state setting xs
+  pub started-again : (xs : List Literal) (l : Literal) → has formulas xs l ≡ true → with_instance setting.mode [] ((l ∷ []) ∷ []) (start_offering offers setting xs) ≡ start_offering offers setting xs
   started-again xs l there = by_depth (is_shallow_literal l) refl
     where
-      by_depth : (b : Bool) → is_shallow_literal l ≡ b → with_instance setting.mode [] ((l ∷ []) ∷ []) (starting_state setting xs) ≡ starting_state setting xs
+      by_depth : (b : Bool) → is_shallow_literal l ≡ b → with_instance setting.mode [] ((l ∷ []) ∷ []) (start_offering offers setting xs) ≡ start_offering offers setting xs
       by_depth true e = sym (with_test xs l true e) ∙ begun_again (shallow xs) l (has-filter l xs e there)
       by_depth false e = sym (with_test xs l false e)
 
-  pub started-none : starting_state setting [] ≡ nothing_yet
+  pub started-none : start_offering offers setting [] ≡ record nothing_yet { offers = offers }
   started-none = refl
 
   -- its clauses are its literals'
-  pub started-clauses : (xs : List Literal) → (starting_state setting xs).clauses ≡ map unit (shallow xs)
+  pub started-clauses : (xs : List Literal) → (start_offering offers setting xs).clauses ≡ map unit (shallow xs)
   started-clauses xs = refl

@@ -23,6 +23,9 @@ use Rattle.search_spec.specs.Numbered.{numbers}
 use Rattle.search_spec.specs.State.{State, Setting, process, with_commands}
 use Rattle.search_spec.specs.Instances.{with_literals, with_instance}
 use Rattle.search_spec.specs.After.{nothing_yet, starting_state, state_after}
+use Rattle.search_spec.specs.Heads.{HeadOffers}
+use Rattle.search_spec.specs.Offers.{offered_heads}
+use Rattle.head_offers.specs.Offering.{the_offers}
 use Rattle.search_spec.proofs.TypedPushes.{each_filtered}
 use Rattle.refute_print.specs.Sizes.{nesting}
 use Rattle.type_bound.specs.Modest.{IsModestLiteral}
@@ -40,7 +43,7 @@ use Rattle.prover_state.specs.Internal.Growing.{BasisGrows}
 use Rattle.prover_state.specs.Internal.Standing.{without_witnesses, setting_by, the_state, IsBasis, IsRightState}
 use Rattle.prover_state.specs.Internal.Steps.{IsMadeInstance}
 use Rattle.prover_search.specs.Internal.Running.{start_in, IsRunning}
-use Rattle.prover_search.specs.Internal.Starting.{AddsUnit, AddsStart, IsStarting}
+use Rattle.prover_search.specs.Internal.Starting.{AddsUnit, AddsStart, start_offering, IsStarting}
 use Rattle.prover_search.proofs.DevelopLaws.{grows-wider, wider-then, wider-itself}
 use Rattle.prover_search.proofs.UnitLaws.{start-stays}
 use Rattle.prover_state.proofs.StateStays.{state-stays, right-stays}
@@ -154,7 +157,7 @@ module _ (t0 : Tables) (q0 : Queue Planned Delays) where
   abbrev setting : Setting
   setting = setting_by t0 q0
 
-  pub starting-none : the_state t0 q0 ≡ nothing_yet → IsRightState t0 q0 → t0.steps ≡ ([], []) → IsStarting t0 q0 t0 q0 []
+  pub starting-none : the_state t0 q0 ≡ record nothing_yet { offers = the_offers t0.offers } → IsRightState t0 q0 → t0.steps ≡ ([], []) → IsStarting t0 q0 t0 q0 []
   starting-none empty right none = record {
     state = empty;
     right = right;
@@ -182,7 +185,7 @@ module _ (t0 : Tables) (q0 : Queue Planned Delays) where
     abbrev shallow : List Literal → List Literal
     shallow xs = filter is_shallow_literal xs
 
-    from_start : the_state u p ≡ with_instance setting.mode [] ((l ∷ []) ∷ []) (starting_state setting ls)
+    from_start : the_state u p ≡ with_instance setting.mode [] ((l ∷ []) ∷ []) (start_offering (the_offers t0.offers) setting ls)
     from_start = is ∙ ap₂ (λ (d : Delays) (x : State). with_instance d.mode [] ((l ∷ []) ∷ []) x) s.rule s.state
 
     basis_grows : BasisGrows t0.basis u.basis
@@ -196,8 +199,8 @@ module _ (t0 : Tables) (q0 : Queue Planned Delays) where
     steps_before = sym (clauses_length t q) ∙ ap (λ (x : State). length x.clauses) s.state ∙ mapped_length unit (shallow ls)
 
     module _ (there : has formulas ls l ≡ true) where
-      state_again : the_state u p ≡ starting_state setting ls
-      state_again = from_start ∙ started-again setting ls l there
+      state_again : the_state u p ≡ start_offering (the_offers t0.offers) setting ls
+      state_again = from_start ∙ started-again (the_offers t0.offers) setting ls l there
 
       steps_again : length u.steps.0 ≡ length t.steps.0
       steps_again = sym (clauses_length u p) ∙ ap (λ (x : State). length x.clauses) state_again ∙ mapped_length unit (shallow ls) ∙ sym steps_before
@@ -219,8 +222,8 @@ module _ (t0 : Tables) (q0 : Queue Planned Delays) where
           }
 
     module _ (fresh : has formulas ls l ≡ false) where
-      state_more : the_state u p ≡ starting_state setting (ls ++ l ∷ [])
-      state_more = from_start ∙ sym (started-last setting ls l fresh)
+      state_more : the_state u p ≡ start_offering (the_offers t0.offers) setting (ls ++ l ∷ [])
+      state_more = from_start ∙ sym (started-last (the_offers t0.offers) setting ls l fresh)
 
       longer : (b : Bool) → is_shallow_literal l ≡ b → shallow (ls ++ l ∷ []) ≡ shallow ls ++ (if b then l ∷ [] else [])
       longer b e = filter-append is_shallow_literal ls (l ∷ []) ∙ ap (λ (c : Bool). shallow ls ++ (if c then l ∷ [] else [])) e
@@ -273,14 +276,15 @@ module _ (t0 : Tables) (q0 : Queue Planned Delays) where
   done-none t q ls s = ap (λ (x : State). x.done) s.state
 
   -- a start is the start of a run
-  module _ (t : Tables) (q : Queue Planned Delays) (ls : List Literal) (s : IsStarting t0 q0 t q ls) (declared : IsScope (without_witnesses t0.basis.bank)) (typed : IsBranch (without_witnesses t0.basis.bank) ls) (names : Each (λ a. nesting a ≤ 1024) (without_witnesses t0.basis.bank).names) (modest : Each (IsModestLiteral 1024) ls) (unwitnessed : t0.basis.witnesses ≡ []) (range : IsInRange q0.rule.mode) where
+  module _ (t : Tables) (q : Queue Planned Delays) (ls : List Literal) (s : IsStarting t0 q0 t q ls) (declared : IsScope (without_witnesses t0.basis.bank)) (typed : IsBranch (without_witnesses t0.basis.bank) ls) (names : Each (λ a. nesting a ≤ 1024) (without_witnesses t0.basis.bank).names) (modest : Each (IsModestLiteral 1024) ls) (unwitnessed : t0.basis.witnesses ≡ []) (range : IsInRange q0.rule.mode) (offered : the_offers t0.offers ≡ offered_heads q0.rule.mode (without_witnesses t0.basis.bank) (filter is_shallow_literal ls)) where
     setting_same : setting_by t q ≡ setting
     setting_same = ap₂ (λ (x : Scope) (d : Delays). record { scope = x; mode = d.mode }) (scope-grows t0.basis t.basis s.basis) s.rule
 
     state_is : starting_state (setting_by t q) (start_in t) ≡ the_state t q
     state_is =
         ap₂ (λ (x : Setting) (ks : List Literal). starting_state x ks) setting_same s.units
-        ∙ ap (λ ks. with_commands setting.mode (map process ks) (record nothing_yet { clauses = map unit ks; seen = ks })) (shallow_twice ls)
+        ∙ ap (λ ks. with_commands setting.mode (map process ks) (record nothing_yet { clauses = map unit ks; seen = ks; offers = offered_heads setting.mode setting.scope ks })) (shallow_twice ls)
+        ∙ ap (λ (o : HeadOffers). start_offering o setting ls) (sym offered)
         ∙ sym s.state
 
     pub running-start : IsRunning t q

@@ -7,6 +7,7 @@ mod alone;
 mod carry;
 mod equation;
 mod instances;
+mod offered;
 mod prepared;
 mod process;
 mod propositional;

@@ -18,6 +18,7 @@ ghost use Rattle.prover_search.specs.Internal.Answers.{AnswersStep};
 ghost use Rattle.prover_search.specs.Internal.Starting.{IsPreparedFor};
 
 use crate::advance::advance;
+use crate::offered::start_offers;
 use crate::prepared::Prepared;
 use crate::start::start_all;
 use crate::stepped::Stepped;
@@ -88,8 +89,9 @@ impl<W: Weigher<Waiting>> Search<W> {
         ensures done { IfOk result (λ s. s.core.tables.done ≡ 0) }
         ensures ready { IfOk result (λ s. s.is_refused ≡ false) }
     {
+        let offers = start_offers(alloc, mode, &prepared.basis, prepared.start.as_slice())?;
         let Prepared { basis, start } = prepared;
-        let mut core = Core::new(alloc, basis, *mode, weigher)?;
+        let mut core = Core::new(alloc, basis, offers, *mode, weigher)?;
         match start_all(&mut core, start.as_slice()) {
             Ok(()) => Ok(Search {
                 core,

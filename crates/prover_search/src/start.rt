@@ -5,6 +5,7 @@ ghost use Rattle.tableau_calculus.specs.Start.{without_repeats};
 ghost use Rattle.sat_base.specs.declared.literal.SatLit.{SatLit};
 ghost use Rattle.sat_core.specs.Solver.{learned};
 ghost use Rattle.search_spec.specs.After.{nothing_yet};
+ghost use Rattle.head_offers.specs.Offering.{the_offers};
 ghost use Rattle.search_spec.specs.Instances.{with_instance};
 ghost use Rattle.literal_map.specs.Atoms.{bank_literal};
 ghost use Rattle.tableau_clauses.specs.Table.{the_clauses};
@@ -73,7 +74,7 @@ pub(crate) fn start_all<W: Weigher<Waiting>>(
     core: &mut Core<W>,
     start: &[SatLit],
 ) -> Result<(), AllocError>
-    requires state { the_state core.old.tables core.old.plan ≡ nothing_yet }
+    requires state { the_state core.old.tables core.old.plan ≡ record nothing_yet { offers = the_offers core.old.tables.offers } }
     requires right { IsRightState core.old.tables core.old.plan }
     requires steps { core.old.tables.steps ≡ ([], []) }
     requires numbers { All (IsNumberIn core.old.tables.basis.lits) start.now }

@@ -23,19 +23,23 @@ use Rattle.search_spec.specs.Internal.Loops.{queue_of}
 use Rattle.prover_state.specs.declared.command.Planned.{Planned}
 use Rattle.prover_state.specs.declared.command.Delays.{Delays}
 use Rattle.prover_state.specs.declared.stem.Stem.{Stem}
+use Rattle.head_offers.specs.declared.offers.Offers.{Offers}
+use Rattle.prover_state.specs.declared.offers.Offered.{Offered}
 use Rattle.prover_state.specs.declared.tables.Basis.{Basis}
 use Rattle.prover_state.specs.declared.tables.Tables.{Tables}
 use Rattle.prover_state.specs.Internal.Empty.{AreEmpty}
 use Rattle.prover_state.specs.Internal.Heads.{sketches_of, AreStems}
 use Rattle.prover_state.specs.Internal.Holes.{holes_in}
 use Rattle.prover_state.specs.Internal.Names.{typed_at, IsNumberIn, IsPlace}
+use Rattle.head_offers.specs.Offering.{the_offers}
+use Rattle.prover_state.specs.Internal.Offering.{ListsOffers}
 use Rattle.prover_state.specs.Internal.Pending.{loop_at, IsEntry}
 use Rattle.prover_state.specs.Internal.Standing.{without_witnesses, rows_in, scope_by, sketches_in, naming_in, sources, the_state, is_universal, can_pair, places_where, IsBasis, IsRightState}
 use Rattle.prover_state.proofs.EachLaws.{each-weaker, each-last}
 use Rattle.prover_state.proofs.NotingLaws.{listed-last}
-use Rattle.prover_state.proofs.FittingLaws.{places-step}
+use Rattle.prover_state.proofs.OfferingLaws.{offered-step}
 
-module _ (g : Basis) (names : List Listing) (t : Tables) (e : AreEmpty g names t) (w : g.witnesses ≡ []) (q : Queue Planned Delays) (entries : q.entries ≡ []) (pushes : q.pushes ≡ 0) where
+module _ (g : Basis) (given : Offers) (listed : Offered) (t : Tables) (e : AreEmpty g given listed t) (w : g.witnesses ≡ []) (q : Queue Planned Delays) (entries : q.entries ≡ []) (pushes : q.pushes ≡ 0) where
   no_witnesses : t.basis.witnesses ≡ []
   no_witnesses = ap (λ (h : Basis). h.witnesses) e.basis ∙ w
 
@@ -45,7 +49,7 @@ module _ (g : Basis) (names : List Listing) (t : Tables) (e : AreEmpty g names t
   no_sketches : sketches_in t ≡ []
   no_sketches = ap (λ (stems : List Stem). sketches_of (scope_by t.basis) stems) e.stems
 
-  pub state-empty : the_state t q ≡ nothing_yet
+  pub state-empty : the_state t q ≡ record nothing_yet { offers = the_offers given }
   state-empty = λ i. record {
     clauses = map (map (bank_literal t.basis.bank.terms t.basis.lits)) (the_clauses (e.steps i));
     seen = map (bank_literal t.basis.bank.terms t.basis.lits) (e.seen i);
@@ -59,9 +63,17 @@ module _ (g : Basis) (names : List Listing) (t : Tables) (e : AreEmpty g names t
     pushes = pushes i;
     done = e.done i;
     moment = e.moment i;
+    offers = the_offers (e.offers i);
   }
 
-  pub right-empty : IsBasis g → ((n : ℕ) → ids_of (base n) names ≡ places_to n 0 (without_witnesses g.bank).names) → IsRightState t q
+  offers_listed : ListsOffers (the_offers given) listed.names listed.bases.items (without_witnesses g.bank) → ListsOffers (the_offers t.offers) t.names t.bases.items (without_witnesses t.basis.bank)
+  offers_listed l =
+      subst (λ (o : Offers). ListsOffers (the_offers o) t.names t.bases.items (without_witnesses t.basis.bank)) (sym e.offers)
+      (subst (λ (ls : List Listing). ListsOffers (the_offers given) ls t.bases.items (without_witnesses t.basis.bank)) (sym e.names)
+      (subst (λ (bs : List ℕ). ListsOffers (the_offers given) listed.names bs (without_witnesses t.basis.bank)) (sym e.bases)
+      (subst (λ (h : Basis). ListsOffers (the_offers given) listed.names listed.bases.items (without_witnesses h.bank)) (sym e.basis) l)))
+
+  pub right-empty : IsBasis g → ListsOffers (the_offers given) listed.names listed.bases.items (without_witnesses g.bank) → IsRightState t q
   right-empty good named =
       let C : Table → Type 0 = λ x. Each (Each (IsNumberIn t.basis.lits)) (the_clauses x) in
       let B : SolverState → Type 0 = λ x. length (learned x) ≤ q.rule.mode.conflicts in
@@ -78,7 +90,7 @@ module _ (g : Basis) (names : List Listing) (t : Tables) (e : AreEmpty g names t
         terms = subst (Each (λ u. IsPlace t.basis.bank.terms u.1)) (sym e.terms) tt;
         chosen = subst (Each (IsPlace t.basis.bank.terms)) (sym e.chosen) tt;
         described = subst (Each (IsPlace t.basis.bank.terms)) (sym e.described) tt;
-        names = λ n. ap (ids_of (base n)) e.names ∙ named n ∙ ap (λ (h : Basis). places_to n 0 (without_witnesses h.bank).names) (sym e.basis);
+        offered = offers_listed named;
         takers = λ n. ap (ids_of (base n)) e.takers ∙ sym (ap (λ (rows : List Row). places_to n 0 (map (λ r. r.type) rows)) no_rows);
         stems = subst (AreStems (scope_by t.basis) []) (sym e.stems) tt;
         open_holes = e.open_holes ∙ sym (ap (map (λ (p : Sketch). holes_in [] p.partial)) no_sketches);
@@ -125,5 +137,7 @@ module _ (types : List SimpleType) (i : ℕ) (a : SimpleType) (at : slice_get ty
       go true = each-last (λ k. k < i + 1) (ids_of (base n) all) i weaker (omega arith)
       go false = weaker
 
-  pub all-more : (n : ℕ) → ids_of (base n) new ++ places_to n (i + 1) (drop (i + 1) types) ≡ ids_of (base n) all ++ places_to n i (drop i types)
-  all-more n = places-step n i types a (ids_of (base n) all) (ids_of (base n) new) (nat_eq n m) at (turned m n ∙ ap (λ k. nat_eq k n) goal) (listed n)
+  pub offered-more : (P : ℕ → Bool) → P i ≡ true → (n : ℕ) → ids_of (base n) new ++ filter P (places_to n (i + 1) (drop (i + 1) types)) ≡ ids_of (base n) all ++ filter P (places_to n i (drop i types))
+  offered-more P e n =
+      offered-step P n i types a at (ids_of (base n) all) (ids_of (base n) new) e
+      (listed n ∙ ap (λ (b : Bool). if b then ids_of (base n) all ++ i ∷ [] else ids_of (base n) all) (turned m n ∙ ap (λ k. nat_eq k n) goal))

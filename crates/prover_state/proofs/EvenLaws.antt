@@ -1,5 +1,5 @@
 -- Before which place the commands of a loop wait as much longer than others of their kind as the first one does.
-use Rattle.std.specs.Prelude.{◌≡◌, ◌==◌, ◌≤◌, ◌<◌, ◌+◌, ◌-◌, ◌++◌, ℕ, zero, suc, Bool, true, false, List, [], ◌∷◌, map, take, length, nat_lt, Option, Some, None, refl, if◌then◌else◌}
+use Rattle.std.specs.Prelude.{◌≡◌, ◌==◌, ◌≤◌, ◌<◌, ◌+◌, ◌-◌, ◌++◌, ℕ, zero, suc, Bool, true, false, ◌||◌, List, [], ◌∷◌, map, filter, take, length, nat_lt, Option, Some, None, refl, if◌then◌else◌}
 use Rattle.std.proofs.Common.{sym, ap, subst, ◌∙◌, arith, eqb-true, ltb-true, length-append}
 use Rattle.std.proofs.lemmas.List.{length-map}
 use Rattle.stt_core.specs.Lambda.{Lambda, bound, constant, name, witness, all, equality}
@@ -10,7 +10,7 @@ use Rattle.tableau_calculus.specs.Witnesses.{with_rows}
 use Rattle.mode_file.specs.declared.Mode.{Mode}
 use Rattle.search_spec.specs.Defaults.{is_value_choice, default_delay}
 use Rattle.search_spec.specs.Each.{Each}
-use Rattle.search_spec.specs.Heads.{places_to, bases_from, logical_heads, heads_for}
+use Rattle.search_spec.specs.Heads.{HeadOffers, places_to, is_offered, offered_bases, given_heads, is_none_given, logical_heads, heads_for}
 use Rattle.search_spec.specs.Partial.{Hole, first_hole}
 use Rattle.search_spec.specs.Partners.{positive_first}
 use Rattle.search_spec.specs.State.{State, Command as Meant, process, mate, confront, inst, grow, choose, describe}
@@ -28,11 +28,12 @@ use Rattle.prover_state.proofs.PushLaws.{each_of_all, each-take}
 abbrev IsPlain : Lambda → Type 0
 IsPlain h = is_value_choice h ≡ false
 
-plain_logical : (scope : Scope) → Each IsPlain (logical_heads scope zero)
-plain_logical scope =
+plain_logical : (offers : HeadOffers) (scope : Scope) (chooses : Bool) → Each IsPlain (logical_heads offers scope zero chooses)
+plain_logical offers scope chooses =
     let f : SimpleType → Lambda = λ c. constant (equality c) in
     let k : SimpleType → Lambda = λ c. constant (all c) in
-    (refl, (refl, (refl, each-joined IsPlain (map f (bases_from 0 (scope.bases + 2))) (map k (bases_from 1 (scope.bases + 1))) (each_of_all IsPlain f (λ x. refl) _) (each_of_all IsPlain k (λ x. refl) _))))
+    let bs = offered_bases offers scope in
+    (refl, (refl, (refl, (refl, each-joined IsPlain (map f bs) (map k bs) (each_of_all IsPlain f (λ x. refl) bs) (each_of_all IsPlain k (λ x. refl) bs)))))
 
 -- the heads before the logic's own
 plain_front : (vs ns ws : List ℕ) → Each IsPlain (map bound vs ++ map (λ k. constant (name k)) ns ++ map (λ k. constant (witness k)) ws)
@@ -46,16 +47,26 @@ take_front P zero xs ys h k = tt
 take_front P (suc n) [] ys h k = absurd (omega (arith, h))
 take_front P (suc n) (x ∷ xs) ys h k = (k.0, take_front P n xs ys (omega (arith, h)) k.1)
 
-plain_by : (scope : Scope) (front : List Lambda) (b : ℕ) → Each IsPlain front → (n : ℕ) → suc n ≤ length (front ++ logical_heads scope b) → Each IsPlain (take n (front ++ logical_heads scope b))
-plain_by scope front zero e n h = each-take IsPlain n (front ++ logical_heads scope zero) (each-joined IsPlain front (logical_heads scope zero) e (plain_logical scope))
-plain_by scope front (suc b) e n h = take_front IsPlain n front (logical_heads scope (suc b)) (let l = length-append front (logical_heads scope (suc b)) in omega (arith, h, l)) e
+one_at_most : (offers : HeadOffers) (scope : Scope) (b : ℕ) (chooses : Bool) → length (logical_heads offers scope (suc b) chooses) ≤ 1
+one_at_most offers scope b true = omega arith
+one_at_most offers scope b false = omega arith
+
+plain_by : (offers : HeadOffers) (scope : Scope) (front : List Lambda) (b : ℕ) (chooses : Bool) → Each IsPlain front → (n : ℕ) → suc n ≤ length (front ++ logical_heads offers scope b chooses)
+    → Each IsPlain (take n (front ++ logical_heads offers scope b chooses))
+plain_by offers scope front zero chooses e n h =
+    each-take IsPlain n (front ++ logical_heads offers scope zero chooses) (each-joined IsPlain front (logical_heads offers scope zero chooses) e (plain_logical offers scope chooses))
+plain_by offers scope front (suc b) chooses e n h =
+    let logic = logical_heads offers scope (suc b) chooses in
+    let l = length-append front logic in
+    let o = one_at_most offers scope b chooses in
+    take_front IsPlain n front logic (omega (arith, h, l, o)) e
 
 -- all heads but the last one
-plain_heads : (scope : Scope) (o : Option Hole) (n : ℕ) → suc n ≤ length (heads_for scope o) → Each IsPlain (take n (heads_for scope o))
-plain_heads scope None n h = absurd (omega (arith, h))
-plain_heads scope (Some x) n h =
-    plain_by scope (map bound (places_to x.base 0 x.context) ++ map (λ k. constant (name k)) (places_to x.base 0 scope.names) ++ map (λ k. constant (witness k)) (places_to x.base 0 scope.witnesses)) x.base
-    (plain_front (places_to x.base 0 x.context) (places_to x.base 0 scope.names) (places_to x.base 0 scope.witnesses)) n h
+plain_heads : (offers : HeadOffers) (scope : Scope) (o : Option Hole) (n : ℕ) → suc n ≤ length (heads_for offers scope o) → Each IsPlain (take n (heads_for offers scope o))
+plain_heads offers scope None n h = absurd (omega (arith, h))
+plain_heads offers scope (Some x) n h =
+    plain_by offers scope (given_heads offers scope x) x.base (offers.choices || is_none_given (given_heads offers scope x))
+    (plain_front (places_to x.base 0 x.context) (filter (is_offered offers.names) (places_to x.base 0 scope.names)) (places_to x.base 0 scope.witnesses)) n h
 
 -- LOOPS
 
@@ -138,10 +149,10 @@ module _ (mode : Mode) where
   -- all commands but the last one of a loop over heads
   heads_plain : (scope : Scope) (s : State) (w n : ℕ) (c : Meant) → suc n ≤ length (over_heads scope s w c) → Each (λ d. extra_delay mode d ≡ 0) (take n (over_heads scope s w c))
   heads_plain scope s w n (grow p h) l =
-      let hs = heads_for (with_rows scope (take w s.rows)) (first_hole [] p.partial) in
+      let hs = heads_for s.offers (with_rows scope (take w s.rows)) (first_hole [] p.partial) in
       subst (Each (λ d. extra_delay mode d ≡ 0)) (mapped_take (grow p) n hs)
       (each-map (λ d. extra_delay mode d ≡ 0) (grow p) (take n hs)
-      (each_zero (take n hs) (plain_heads (with_rows scope (take w s.rows)) (first_hole [] p.partial) n (let m = length-map hs (grow p) in omega (arith, l, m)))))
+      (each_zero (take n hs) (plain_heads s.offers (with_rows scope (take w s.rows)) (first_hole [] p.partial) n (let m = length-map hs (grow p) in omega (arith, l, m)))))
     where
       each_zero : (xs : List Lambda) → Each IsPlain xs → Each (λ u. extra_delay mode (grow p u) ≡ 0) xs
       each_zero [] k = tt

@@ -7,9 +7,11 @@ use Rattle.stt_core.specs.Lambda.{Lambda, bound, constant, name, witness, all, e
 use Rattle.stt_core.specs.Typing.{Scope}
 use Rattle.stt_core.proofs.ListLaws.{mapped_get, drop_got, slice_get-append}
 use Rattle.search_spec.specs.Each.{Each}
-use Rattle.search_spec.specs.Heads.{places_to, bases_from, logical_heads, fitting_heads, heads_for}
+use Rattle.search_spec.specs.Heads.{HeadOffers, places_to, logical_heads, heads_for}
 use Rattle.search_spec.specs.Partial.{Hole}
-use Rattle.prover_state.specs.Internal.Fitting.{variables_for, logical_for, later_heads, SplitsAt}
+use Rattle.prover_state.specs.Internal.Fitting.{variables_for, names_for, chooses_for, over_bases, logical_for, later_heads, SplitsAt}
+use Rattle.head_offers.specs.Offering.{the_offers}
+use Rattle.prover_state.specs.Internal.Offering.{offered_among}
 use Rattle.prover_state.specs.Internal.Pending.{base_of}
 use Rattle.prover_state.specs.declared.command.Planned.{Planned}
 use Rattle.prover_state.specs.declared.command.Delays.{Delays}
@@ -46,17 +48,6 @@ past_end (x ∷ xs) (suc i) h = past_end xs i (omega (arith, h))
 pub places-done : (b i : ℕ) (types : List SimpleType) (items : List ℕ) → length types ≤ i → items ++ places_to b i (drop i types) ≡ places_to b 0 types → items ≡ places_to b 0 types
 places-done b i types items h e = sym (ap (λ (ts : List SimpleType). items ++ places_to b i ts) (past_end types i h) ∙ append-nil items) ∙ e
 
--- THE LOGIC'S OWN HEADS
-
-base-from : (k n j : ℕ) → j < n → slice_get (bases_from k n) j ≡ Some (base (k + j))
-base-from k zero j h = absurd (omega (arith, h))
-base-from k (suc n) zero h = ap (λ m. Some (base m)) (let e : k ≡ k + 0 = omega arith in e)
-base-from k (suc n) (suc j) h = base-from (suc k) n j (omega (arith, h)) ∙ ap (λ m. Some (base m)) (let e : suc k + j ≡ k + suc j = omega arith in e)
-
-pub length-bases : (k n : ℕ) → length (bases_from k n) ≡ n
-length-bases k zero = refl
-length-bases k (suc n) = let e = length-bases (suc k) n in omega (arith, e)
-
 -- what stands behind a first list
 pub get-behind : {X : Type 0} (xs ys : List X) (i : ℕ) → length xs ≤ i → slice_get (xs ++ ys) i ≡ slice_get ys (i - length xs)
 get-behind [] ys i h = ap (slice_get ys) (let e : i ≡ i - 0 = omega arith in e)
@@ -69,31 +60,33 @@ get-before [] ys i h = absurd (omega (arith, h))
 get-before (x ∷ xs) ys zero h = refl
 get-before (x ∷ xs) ys (suc i) h = get-before xs ys i (omega (arith, h))
 
-pub equality-at : (bases i : ℕ) → 3 ≤ i → i - 3 < bases + 2 → slice_get (logical_for bases 0) i ≡ Some (constant (equality (base (i - 3))))
-equality-at bases zero g h = absurd (omega (arith, g))
-equality-at bases (suc zero) g h = absurd (omega (arith, g))
-equality-at bases (suc (suc zero)) g h = absurd (omega (arith, g))
-equality-at bases (suc (suc (suc j))) g h =
-    let f : SimpleType → Lambda = λ c. constant (equality c) in
-    let small : j < bases + 2 = omega (arith, h) in
-    slice_get-append (map f (bases_from 0 (bases + 2))) _ j _ (mapped_get f (bases_from 0 (bases + 2)) j (base (0 + j)) (base-from 0 (bases + 2) j small))
-    ∙ ap (λ m. Some (f (base m))) (let e : 0 + j ≡ suc (suc (suc j)) - 3 = omega arith in e)
+-- THE LOGIC'S OWN HEADS
 
-pub quantifier-at : (bases i : ℕ) → 3 ≤ i → bases + 2 ≤ i - 3 → i < length (logical_for bases 0) → slice_get (logical_for bases 0) i ≡ Some (constant (all (base (i - (bases + 2) - 2))))
-quantifier-at bases zero g h l = absurd (omega (arith, g))
-quantifier-at bases (suc zero) g h l = absurd (omega (arith, g))
-quantifier-at bases (suc (suc zero)) g h l = absurd (omega (arith, g))
-quantifier-at bases (suc (suc (suc j))) g h l =
-    let f : SimpleType → Lambda = λ c. constant (equality c) in
-    let k : SimpleType → Lambda = λ c. constant (all c) in
-    let first : length (map f (bases_from 0 (bases + 2))) ≡ bases + 2 = length-map (bases_from 0 (bases + 2)) f ∙ length-bases 0 (bases + 2) in
-    let second : length (map k (bases_from 1 (bases + 1))) ≡ bases + 1 = length-map (bases_from 1 (bases + 1)) k ∙ length-bases 1 (bases + 1) in
-    let both = length-append (map f (bases_from 0 (bases + 2))) (map k (bases_from 1 (bases + 1))) in
-    let at : slice_get (bases_from 1 (bases + 1)) (j - (bases + 2)) ≡ Some (base (1 + (j - (bases + 2)))) = base-from 1 (bases + 1) (j - (bases + 2)) (omega (arith, h, l, first, second, both)) in
-    get-behind (map f (bases_from 0 (bases + 2))) (map k (bases_from 1 (bases + 1))) j (omega (arith, h, first))
-    ∙ ap (slice_get (map k (bases_from 1 (bases + 1)))) (let e : j - length (map f (bases_from 0 (bases + 2))) ≡ j - (bases + 2) = omega (arith, first) in e)
-    ∙ mapped_get k (bases_from 1 (bases + 1)) (j - (bases + 2)) (base (1 + (j - (bases + 2)))) at
-    ∙ ap (λ m. Some (k (base m))) (let e : 1 + (j - (bases + 2)) ≡ suc (suc (suc j)) - (bases + 2) - 2 = omega (arith, h) in e)
+module _ (bs : List ℕ) where
+  abbrev equality_on : SimpleType → Lambda
+  equality_on c = constant (equality c)
+
+  abbrev all_on : SimpleType → Lambda
+  all_on c = constant (all c)
+
+  pub equality-at : (i n : ℕ) → slice_get bs i ≡ Some n → slice_get (over_bases (map base bs)) i ≡ Some (constant (equality (base n)))
+  equality-at i n at = slice_get-append (map equality_on (map base bs)) (map all_on (map base bs)) i (equality_on (base n)) (mapped_get equality_on (map base bs) i (base n) (mapped_get base bs i n at))
+
+  pub quantifier-at : (i n : ℕ) → length bs ≤ i → slice_get bs (i - length bs) ≡ Some n → slice_get (over_bases (map base bs)) i ≡ Some (constant (all (base n)))
+  quantifier-at i n h at =
+      let m = length-map bs base in
+      let k = length-map (map base bs) equality_on in
+      get-behind (map equality_on (map base bs)) (map all_on (map base bs)) i (omega (arith, h, m, k))
+      ∙ ap (slice_get (map all_on (map base bs))) (let e : i - length (map equality_on (map base bs)) ≡ i - length bs = omega (arith, m, k) in e)
+      ∙ mapped_get all_on (map base bs) (i - length bs) (base n) (mapped_get base bs (i - length bs) n at)
+
+  pub quantifier-within : (i : ℕ) → i < length (over_bases (map base bs)) → length bs ≤ i → i - length bs < length bs
+  quantifier-within i l h =
+      let m = length-map bs base in
+      let k = length-map (map base bs) equality_on in
+      let j = length-map (map base bs) all_on in
+      let a = length-append (map equality_on (map base bs)) (map all_on (map base bs)) in
+      omega (arith, l, h, m, k, j, a)
 
 -- PLACES BELOW A NUMBER
 
@@ -129,7 +122,7 @@ split-count n (w ∷ ws) os (suc k) a b s =
 
 -- HEADS AT PLACES
 
-module _ (b n : ℕ) (types : List SimpleType) (few : n ≤ length types) (bases : ℕ) (all : List ℕ) (are : all ≡ places_to b 0 types) (k : ℕ) (splits : SplitsAt n all k) where
+module _ (b n : ℕ) (types : List SimpleType) (few : n ≤ length types) (logic : List Lambda) (all : List ℕ) (are : all ≡ places_to b 0 types) (k : ℕ) (splits : SplitsAt n all k) where
   abbrev first : List ℕ
   first = places_to b 0 (take n types)
 
@@ -150,44 +143,59 @@ module _ (b n : ℕ) (types : List SimpleType) (few : n ≤ length types) (bases
       (each-weaker (λ i. (0 + length (take n types) ≤ i) × (i < 0 + length (take n types) + length (drop n types))) (λ i. n ≤ i) (λ i h. omega (arith, h.0, taken)) others (places-range b (0 + length (take n types)) (drop n types)))
       (let S : List ℕ → Type 0 = λ xs. SplitsAt n xs k in subst S split splits)
 
-  pub witness-at : (i w : ℕ) → i < k → slice_get all i ≡ Some w → slice_get (map as_witness first ++ logical_for bases b) i ≡ Some (as_witness w)
+  pub witness-at : (i w : ℕ) → i < k → slice_get all i ≡ Some w → slice_get (map as_witness first ++ logic) i ≡ Some (as_witness w)
   witness-at i w h at =
       let c = count in
-      slice_get-append (map as_witness first) (logical_for bases b) i (as_witness w)
+      slice_get-append (map as_witness first) logic i (as_witness w)
       (mapped_get as_witness first i w (sym (get-before first others i (omega (arith, h, c))) ∙ ap (λ xs. slice_get xs i) (sym split) ∙ at))
 
-  pub logical-within : (i : ℕ) → k ≤ i → i < length (map as_witness first ++ logical_for bases b) → i - k < length (logical_for bases b)
+  pub logical-within : (i : ℕ) → k ≤ i → i < length (map as_witness first ++ logic) → i - k < length logic
   logical-within i h l =
       let c = count in
       let m = length-map first as_witness in
-      let a = length-append (map as_witness first) (logical_for bases b) in
+      let a = length-append (map as_witness first) logic in
       omega (arith, h, l, c, m, a)
 
-  pub logical-at : (i : ℕ) (t : Lambda) → k ≤ i → slice_get (logical_for bases b) (i - k) ≡ Some t → slice_get (map as_witness first ++ logical_for bases b) i ≡ Some t
+  pub logical-at : (i : ℕ) (t : Lambda) → k ≤ i → slice_get logic (i - k) ≡ Some t → slice_get (map as_witness first ++ logic) i ≡ Some t
   logical-at i t h at =
       let c = count in
       let m = length-map first as_witness in
-      get-behind (map as_witness first) (logical_for bases b) i (omega (arith, h, c, m))
-      ∙ ap (slice_get (logical_for bases b)) (let e : i - length (map as_witness first) ≡ i - k = omega (arith, c, m) in e)
+      get-behind (map as_witness first) logic i (omega (arith, h, c, m))
+      ∙ ap (slice_get logic) (let e : i - length (map as_witness first) ≡ i - k = omega (arith, c, m) in e)
       ∙ at
 
-logical_is : (scope : Scope) (n : ℕ) → logical_heads scope n ≡ logical_for scope.bases n
-logical_is scope zero = refl
-logical_is scope (suc n) = refl
+logical_is : (offers : HeadOffers) (scope : Scope) (n : ℕ) → logical_heads offers scope n true ≡ logical_for (offered_among offers scope.bases) n
+logical_is offers scope zero = refl
+logical_is offers scope (suc n) = refl
 
 -- the heads for a hole, one kind after the other
-pub heads-some : (scope : Scope) (h : Hole) → fitting_heads scope h ≡ map bound (places_to h.base 0 h.context) ++ (map (λ k. constant (name k)) (places_to h.base 0 scope.names) ++ later_heads scope h.base)
-heads-some scope h =
+pub heads-list : (offers : HeadOffers) (scope : Scope) (o : Option Hole) (i : ℕ) → i < length (heads_for offers scope o)
+    → heads_for offers scope o ≡ map bound (variables_for o) ++ (map (λ k. constant (name k)) (names_for offers scope (base_of o)) ++ later_heads offers scope (base_of o) (chooses_for offers scope o))
+heads-list offers scope None i h = absurd (omega (arith, h))
+heads-list offers scope (Some h) i l =
     let vs = map bound (places_to h.base 0 h.context) in
-    let ns : List Lambda = map (λ k. constant (name k)) (places_to h.base 0 scope.names) in
+    let ns : List Lambda = map (λ k. constant (name k)) (names_for offers scope h.base) in
     let ws : List Lambda = map (λ k. constant (witness k)) (places_to h.base 0 scope.witnesses) in
-    append_assoc (vs ++ ns) ws (logical_heads scope h.base)
-    ∙ append_assoc vs ns (ws ++ logical_heads scope h.base)
-    ∙ ap (λ (ls : List Lambda). vs ++ (ns ++ (ws ++ ls))) (logical_is scope h.base)
+    let logic = logical_heads offers scope h.base (chooses_for offers scope (Some h)) in
+    append_assoc (vs ++ ns) ws logic ∙ append_assoc vs ns (ws ++ logic)
 
-pub heads-list : (scope : Scope) (o : Option Hole) (i : ℕ) → i < length (heads_for scope o) → heads_for scope o ≡ map bound (variables_for o) ++ (map (λ k. constant (name k)) (places_to (base_of o) 0 scope.names) ++ later_heads scope (base_of o))
-heads-list scope None i h = absurd (omega (arith, h))
-heads-list scope (Some h) i l = heads-some scope h
+-- With the choice there may be one head more, at the end.
+pub later-longer : (offers : HeadOffers) (scope : Scope) (n : ℕ) (chooses : Bool) → length (later_heads offers scope n chooses) ≤ length (later_heads offers scope n true)
+later-longer offers scope zero chooses = omega arith
+later-longer offers scope (suc n) true = omega arith
+later-longer offers scope (suc n) false =
+    let ws : List Lambda = map (λ k. constant (witness k)) (places_to (suc n) 0 scope.witnesses) in
+    let a = length-append ws [] in
+    let b = length-append ws (logical_heads offers scope (suc n) true) in
+    omega (arith, a, b)
+
+pub later-same : (offers : HeadOffers) (scope : Scope) (n : ℕ) (chooses : Bool) (i : ℕ) → i < length (later_heads offers scope n chooses) → slice_get (later_heads offers scope n chooses) i ≡ slice_get (later_heads offers scope n true) i
+later-same offers scope zero chooses i h = refl
+later-same offers scope (suc n) true i h = refl
+later-same offers scope (suc n) false i h =
+    let ws : List Lambda = map (λ k. constant (witness k)) (places_to (suc n) 0 scope.witnesses) in
+    let within : i < length ws = (let a = length-append ws [] in omega (arith, h, a)) in
+    get-before ws [] i within ∙ sym (get-before ws (logical_heads offers scope (suc n) true) i within)
 
 module _ (vs ns : List ℕ) (later all : List Lambda) (are : all ≡ map bound vs ++ (map (λ k. constant (name k)) ns ++ later)) where
   abbrev as_name : ℕ → Lambda
@@ -234,20 +242,28 @@ module _ (t : Tables) (q : Queue Planned Delays) (r : IsRightState t q) (b n : �
   abbrev types : List SimpleType
   types = map (λ (x : Row). x.type) (rows_in t.basis)
 
+  abbrev offers : HeadOffers
+  offers = the_offers t.offers
+
   abbrev scope : Scope
   scope = with_rows (without_witnesses t.basis.bank) (take n (rows_in t.basis))
+
+  abbrev logic_of : List Lambda
+  logic_of = logical_for (map base t.bases.items) b
 
   few_types : n ≤ length types
   few_types = let m = length-map (rows_in t.basis) (λ (x : Row). x.type) in omega (arith, few, m)
 
-  later_are : later_heads scope b ≡ map (λ k. constant (witness k)) (places_to b 0 (take n types)) ++ logical_for scope.bases b
-  later_are = ap (λ (ts : List SimpleType). map (λ k. constant (witness k)) (places_to b 0 ts) ++ logical_for scope.bases b) (mapped_take (λ (x : Row). x.type) n (rows_in t.basis))
+  later_are : later_heads offers scope b true ≡ map (λ k. constant (witness k)) (places_to b 0 (take n types)) ++ logic_of
+  later_are =
+      ap (λ (ts : List SimpleType). map (λ k. constant (witness k)) (places_to b 0 ts) ++ logical_heads offers scope b true) (mapped_take (λ (x : Row). x.type) n (rows_in t.basis))
+      ∙ ap (λ (ls : List Lambda). map (λ k. constant (witness k)) (places_to b 0 (take n types)) ++ ls) (logical_is offers scope b ∙ ap (λ (bs : List SimpleType). logical_for bs b) (sym r.offered.bases))
 
-  pub witness-there : (i w : ℕ) → i < k → slice_get (ids_of (base b) t.takers) i ≡ Some w → slice_get (later_heads scope b) i ≡ Some (constant (witness w))
-  witness-there i w h at = ap (λ xs. slice_get xs i) later_are ∙ witness-at b n types few_types scope.bases (ids_of (base b) t.takers) (r.takers b) k splits i w h at
+  pub witness-there : (i w : ℕ) → i < k → slice_get (ids_of (base b) t.takers) i ≡ Some w → slice_get (later_heads offers scope b true) i ≡ Some (constant (witness w))
+  witness-there i w h at = ap (λ xs. slice_get xs i) later_are ∙ witness-at b n types few_types logic_of (ids_of (base b) t.takers) (r.takers b) k splits i w h at
 
-  pub logical-below : (i : ℕ) → k ≤ i → i < length (later_heads scope b) → i - k < length (logical_for scope.bases b)
-  logical-below i h l = let e = ap length later_are in logical-within b n types few_types scope.bases (ids_of (base b) t.takers) (r.takers b) k splits i h (omega (arith, l, e))
+  pub logical-below : (i : ℕ) → k ≤ i → i < length (later_heads offers scope b true) → i - k < length logic_of
+  logical-below i h l = let e = ap length later_are in logical-within b n types few_types logic_of (ids_of (base b) t.takers) (r.takers b) k splits i h (omega (arith, l, e))
 
-  pub logical-there : (i : ℕ) (u : Lambda) → k ≤ i → slice_get (logical_for scope.bases b) (i - k) ≡ Some u → slice_get (later_heads scope b) i ≡ Some u
-  logical-there i u h at = ap (λ xs. slice_get xs i) later_are ∙ logical-at b n types few_types scope.bases (ids_of (base b) t.takers) (r.takers b) k splits i u h at
+  pub logical-there : (i : ℕ) (u : Lambda) → k ≤ i → slice_get logic_of (i - k) ≡ Some u → slice_get (later_heads offers scope b true) i ≡ Some u
+  logical-there i u h at = ap (λ xs. slice_get xs i) later_are ∙ logical-at b n types few_types logic_of (ids_of (base b) t.takers) (r.takers b) k splits i u h at

@@ -1,6 +1,6 @@
 -- Loops that wait stay what they are, where what they go over becomes longer.
 use Rattle.std.specs.Prelude.{◌≡◌, ◌≤◌, ◌-◌, ℕ, Bool, List, [], map, filter, take, drop, length, Option, Some, None, refl}
-use Rattle.std.proofs.Common.{sym, ap, subst, ◌∙◌, arith, append-nil, length-append, length-drop}
+use Rattle.std.proofs.Common.{sym, ap, ap₂, subst, ◌∙◌, arith, append-nil, length-append, length-drop}
 use Rattle.std.proofs.lemmas.List.{take-append-le, drop-append-le}
 use Rattle.std.proofs.lemmas.List.Elements.{filter-append}
 use Rattle.stt_core.specs.SimpleType.{SimpleType, same_type}
@@ -10,7 +10,7 @@ use Rattle.tableau_calculus.specs.Literals.{Literal}
 use Rattle.tableau_calculus.specs.Witnesses.{Row, with_rows}
 use Rattle.command_queue.specs.declared.entry.Entry.{Entry}
 use Rattle.search_spec.specs.Each.{Each}
-use Rattle.search_spec.specs.Heads.{heads_for}
+use Rattle.search_spec.specs.Heads.{HeadOffers, heads_for}
 use Rattle.search_spec.specs.Partial.{first_hole}
 use Rattle.search_spec.specs.Partners.{positive_first, matings, confrontations}
 use Rattle.search_spec.specs.Terms.{terms_of, universals}
@@ -89,7 +89,7 @@ module _ (scope : Scope) (s s' : State) (ext : ExtendsState s s') where
   heads_longer : (n : ℕ) → n ≤ length s.rows → (c : Meant) → Longer (over_heads scope s n c) (over_heads scope s' n c)
   heads_longer n h (grow p k) =
       same (over_heads scope s n (grow p k)) (over_heads scope s' n (grow p k))
-      (ap (λ (rows : List Row). map (grow p) (heads_for (with_rows scope rows) (first_hole [] p.partial))) (ap (take n) ext.rows.1 ∙ take-append-le n s.rows ext.rows.0 h))
+      (ap₂ (λ (offers : HeadOffers) (rows : List Row). map (grow p) (heads_for offers (with_rows scope rows) (first_hole [] p.partial))) ext.offers (ap (take n) ext.rows.1 ∙ take-append-le n s.rows ext.rows.0 h))
   heads_longer n h (process l) = same [] [] refl
   heads_longer n h (mate l m) = same [] [] refl
   heads_longer n h (confront l m) = same [] [] refl

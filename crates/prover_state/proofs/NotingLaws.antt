@@ -112,6 +112,7 @@ module _ (t : Tables) (q : Queue Planned Delays) (r : IsRightState t q) (l : Sat
       terms = itself (sources t).terms;
       rows = itself (sources t).rows;
       parked = itself (sources t).parked;
+      offers = refl;
     }
 
     loops_same : loops_in t' q.entries ≡ loops_in t q.entries
@@ -144,7 +145,7 @@ module _ (t : Tables) (q : Queue Planned Delays) (r : IsRightState t q) (l : Sat
       terms = r.terms;
       chosen = r.chosen;
       described = r.described;
-      names = r.names;
+      offered = r.offered;
       takers = r.takers;
       stems = r.stems;
       open_holes = r.open_holes;

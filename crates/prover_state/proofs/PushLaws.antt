@@ -201,7 +201,7 @@ module _ (t : Tables) (old new : Queue Planned Delays) (p : Planned) (entry : Is
         described = r.described;
         index = r.index;
         paired = r.paired;
-        names = r.names;
+        offered = r.offered;
         takers = r.takers;
         stems = r.stems;
         open_holes = r.open_holes;

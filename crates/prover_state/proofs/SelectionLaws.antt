@@ -69,7 +69,7 @@ module _ (t : Tables) (q : Queue Planned Delays) (equal : EqualIdsForEqualTerms 
       described = r.described;
       index = r.index;
       paired = r.paired;
-      names = r.names;
+      offered = r.offered;
       takers = r.takers;
       stems = r.stems;
       open_holes = r.open_holes;
@@ -102,7 +102,7 @@ module _ (t : Tables) (q : Queue Planned Delays) (equal : EqualIdsForEqualTerms 
       chosen = r.chosen;
       index = r.index;
       paired = r.paired;
-      names = r.names;
+      offered = r.offered;
       takers = r.takers;
       stems = r.stems;
       open_holes = r.open_holes;

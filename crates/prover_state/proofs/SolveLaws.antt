@@ -32,7 +32,7 @@ module _ (t : Tables) (q : Queue Planned Delays) (r : IsRightState t q) (equal :
     described = r.described;
     index = r.index;
     paired = r.paired;
-    names = r.names;
+    offered = r.offered;
     takers = r.takers;
     stems = r.stems;
     open_holes = r.open_holes;

@@ -29,6 +29,8 @@ use Rattle.prover_state.specs.Internal.Growing.{Longer, Continues, BasisGrows, E
 use Rattle.prover_state.specs.Internal.Heads.{sketches_of, AreStems}
 use Rattle.prover_state.specs.Internal.Holes.{holes_in}
 use Rattle.prover_state.specs.Internal.Names.{typed_at, IsNumberIn, IsPlace}
+use Rattle.head_offers.specs.Offering.{the_offers}
+use Rattle.prover_state.specs.Internal.Offering.{ListsOffers}
 use Rattle.prover_state.specs.Internal.Pending.{loop_at, IsEntry}
 use Rattle.prover_state.specs.Internal.Standing.{without_witnesses, rows_in, scope_by, sketches_in, naming_in, sources, loops_in, the_state, is_universal, can_pair, places_where, IsBasis, IsRightState}
 use Rattle.prover_state.proofs.EachLaws.{each-weaker, map-same}
@@ -98,6 +100,7 @@ module _ (t : Tables) (q : Queue Planned Delays) (g : Basis) (grows : BasisGrows
     terms = itself (sources t).terms (sources grown).terms terms_stay;
     rows = itself (sources t).rows (sources grown).rows rows_stay;
     parked = itself (sources t).parked (sources grown).parked sketches_stay;
+    offers = refl;
   }
 
   loops_same : loops_in grown q.entries ≡ loops_in t q.entries
@@ -121,6 +124,7 @@ module _ (t : Tables) (q : Queue Planned Delays) (g : Basis) (grows : BasisGrows
     pushes = q.pushes;
     done = t.done;
     moment = t.moment;
+    offers = the_offers t.offers;
   }
 
   more_numbers : (ls : List SatLit) → Each (IsNumberIn t.basis.lits) ls → Each (IsNumberIn g.lits) ls
@@ -151,7 +155,7 @@ module _ (t : Tables) (q : Queue Planned Delays) (g : Basis) (grows : BasisGrows
         index = index_stays;
         paired = r.paired ∙ filter-same (can_pair t.basis.bank.terms t.basis.lits) (can_pair g.bank.terms g.lits) (IsNumberIn t.basis.lits) pair_stays t.noted.items r.noted;
         universals = λ a. r.universals a ∙ places-same (is_universal t.basis.bank.terms t.basis.lits a) (is_universal g.bank.terms g.lits a) (IsNumberIn t.basis.lits) (universal_stays a) 0 t.noted.items r.noted;
-        names = λ n. r.names n ∙ ap (λ (scope : Scope). places_to n 0 scope.names) (sym scope_stays);
+        offered = subst (ListsOffers (the_offers t.offers) t.names t.bases.items) (sym scope_stays) r.offered;
         takers = λ n. r.takers n ∙ ap (λ (rows : List Row). places_to n 0 (map (λ r. r.type) rows)) (sym rows_stay);
         terms = each-weaker (λ u. IsPlace t.basis.bank.terms u.1) (λ u. IsPlace g.bank.terms u.1) (λ u h. place-stays t.basis.bank.terms g.bank.terms continues.terms u.1 h) t.terms r.terms;
         chosen = more_places t.chosen r.chosen;

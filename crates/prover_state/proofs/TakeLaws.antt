@@ -148,7 +148,7 @@ module _ (t : Tables) (old mid : Queue Planned Delays) (e : Entry Planned) (take
         described = r.described;
         index = r.index;
         paired = r.paired;
-        names = r.names;
+        offered = r.offered;
         takers = r.takers;
         stems = r.stems;
         open_holes = r.open_holes;

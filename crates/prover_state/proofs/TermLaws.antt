@@ -140,6 +140,7 @@ module _ (t : Tables) (q : Queue Planned Delays) (r : IsRightState t q) (a : Sim
       terms = (record { type = a; term = u } ∷ [], typed_more);
       rows = itself (sources t).rows;
       parked = itself (sources t).parked;
+      offers = refl;
     }
 
     loops_same : loops_in t' q.entries ≡ loops_in t q.entries
@@ -160,7 +161,7 @@ module _ (t : Tables) (q : Queue Planned Delays) (r : IsRightState t q) (a : Sim
       described = r.described;
       index = r.index;
       paired = r.paired;
-      names = r.names;
+      offered = r.offered;
       takers = r.takers;
       stems = r.stems;
       open_holes = r.open_holes;

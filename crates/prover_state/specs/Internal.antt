@@ -1,6 +1,7 @@
 -- Means of proof: what private contracts and proofs speak of.
 pub mod Chains
 pub mod Holes
+pub mod Offering
 pub mod Fitting
 pub mod Names
 pub mod Growing

@@ -1,4 +1,5 @@
 pub use Rattle.command_queue.specs.Queue
+pub use Rattle.head_offers.specs.Offering
 pub use Rattle.instantiate.specs.Listing
 pub use Rattle.literal_map.specs.Atoms
 pub use Rattle.mating_rules.specs.Noted

@@ -11,6 +11,7 @@ mod head;
 mod holes;
 mod instance;
 mod noting;
+mod offers;
 mod partners;
 mod piece;
 mod places;

@@ -1,50 +1,33 @@
 //! Tables in which nothing was done yet.
-ghost use Rattle.std.specs.Prelude.{◌≡◌, ◌+◌, ℕ, [], map, IfOk};
-ghost use Rattle.stt_core.specs.SimpleType.{base};
-ghost use Rattle.instantiate.specs.Listing.{ids_of};
+ghost use Rattle.std.specs.Prelude.{◌≡◌, ◌+◌, [], IfOk};
 ghost use Rattle.search_spec.specs.After.{nothing_yet};
-ghost use Rattle.search_spec.specs.Heads.{places_to};
+ghost use Rattle.head_offers.specs.Offering.{the_offers};
 ghost use Rattle.prover_state.specs.Delays.{delay_by};
 ghost use Rattle.prover_state.specs.Internal.Empty.{AreEmpty};
 ghost use Rattle.prover_state.specs.Internal.Standing.{the_state, IsBasis, IsRightState};
 
 use crate::by_base::ByBase;
-use crate::fitting::small;
 use crate::holes::OpenHoles;
+use crate::offers::Offered;
 use crate::plan::Plan;
 use crate::set::{IdSet, LitSet};
 use crate::tables::{Basis, Core, Tables};
 use crate::waiting::Waiting;
 use command_queue::Weigher;
-use instantiate::{Enumerator, target_of};
+use head_offers::Offers;
+use instantiate::Enumerator;
 use mating_rules::Index;
 use mode_file::Mode;
 use sat_core::Solver;
 use std::alloc::{AllocError, Global};
-use stt_core::{Consts, Ty, Types};
+use stt_core::Types;
 use tableau_clauses::StepTable;
 
-/// The numbers of names by their target types.
-fn names_by_target(alloc: Global, consts: &Consts) -> Result<Enumerator, AllocError>
-    ensures { IfOk result (λ names. (n : ℕ) → ids_of (base n) names ≡ places_to n 0 (map (λ c. c.type) consts.now)) }
-{
-    let mut names = Enumerator::new(alloc);
-    for i in 0..consts.len() {
-        match consts.type_of(i) {
-            Some(ty) => {
-                let number = small(i)?;
-                names.add_term(&Ty::Base(target_of(ty)), number)?;
-            }
-            None => unreachable!(),
-        }
-    }
-    Ok(names)
-}
-
 /// Tables in which nothing was done yet.
-fn empty_tables(alloc: Global, basis: Basis, names: Enumerator) -> Tables
-    ensures { AreEmpty basis names result }
+fn empty_tables(alloc: Global, basis: Basis, offers: Offers, offered: Offered) -> Tables
+    ensures { AreEmpty basis offers offered result }
 {
+    let Offered { names, bases } = offered;
     Tables {
         basis,
         steps: StepTable::new(alloc),
@@ -56,6 +39,8 @@ fn empty_tables(alloc: Global, basis: Basis, names: Enumerator) -> Tables
         terms: Enumerator::new(alloc),
         chosen: IdSet::new(alloc),
         described: IdSet::new(alloc),
+        offers,
+        bases,
         names,
         takers: Enumerator::new(alloc),
         stems: Vec::new(alloc),
@@ -69,25 +54,32 @@ fn empty_tables(alloc: Global, basis: Basis, names: Enumerator) -> Tables
 }
 
 impl<W: Weigher<Waiting>> Core<W> {
-    /// Tables and a plan, in which nothing was done yet.
-    pub fn new(alloc: Global, basis: Basis, mode: Mode, weigher: W) -> Result<Self, AllocError>
+    /// Tables and a plan, in which nothing was done yet, with what is offered to holes.
+    pub fn new(
+        alloc: Global,
+        basis: Basis,
+        offers: Offers,
+        mode: Mode,
+        weigher: W,
+    ) -> Result<Self, AllocError>
         requires basis { IsBasis basis }
         requires unwitnessed { basis.witnesses ≡ [] }
         requires callable { W.is_callable weigher }
         requires answers { W.answers weigher (λ waiting now. now + delay_by mode waiting.first) }
-        ensures state { IfOk result (λ core. the_state core.tables core.plan ≡ nothing_yet) }
+        ensures state { IfOk result (λ core. the_state core.tables core.plan ≡ record nothing_yet { offers = the_offers offers }) }
         ensures right { IfOk result (λ core. IsRightState core.tables core.plan) }
         ensures basis { IfOk result (λ core. core.tables.basis ≡ basis) }
         ensures mode { IfOk result (λ core. core.plan.rule.mode ≡ mode) }
         ensures steps { IfOk result (λ core. core.tables.steps ≡ ([], [])) }
     {
-        match names_by_target(alloc, &basis.bank.sig().consts) {
-            Ok(names) => Ok(Core {
-                tables: empty_tables(alloc, basis, names),
+        match Offered::listed(alloc, basis.bank.sig(), &offers) {
+            Ok(offered) => Ok(Core {
+                tables: empty_tables(alloc, basis, offers, offered),
                 plan: Plan::new(alloc, mode, weigher),
             }),
             Err(AllocError) => {
                 drop(basis);
+                drop(offers);
                 Err(AllocError)
             }
         }

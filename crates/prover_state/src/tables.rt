@@ -8,6 +8,7 @@ use crate::stem::Stem;
 use crate::waiting::Waiting;
 use bank_normal::Normaliser;
 use command_queue::Weigher;
+use head_offers::Offers;
 use instantiate::Enumerator;
 use literal_map::LitTable;
 use mating_rules::Index;
@@ -30,9 +31,10 @@ pub struct Basis {
 
 /// What the search keeps beside the commands that wait: clauses, which the solver has too; the literals that were seen and those that were
 /// processed, of these in an index those that can be partners, and the places of the universal ones by the types over which they range;
-/// the terms by type; the predicates that were chosen by and those that were described; the numbers of the names and of the witnesses
-/// by their target types; the partial terms by what they grew from, with their holes, their numbers by the base types of their first
-/// holes, and their types; how many commands were carried out; and the moment from which delays count.
+/// the terms by type; the predicates that were chosen by and those that were described; what is offered to holes, with the numbers of the
+/// base types and of the names that are, of these by their target types, and the numbers of the witnesses by theirs; the partial terms by
+/// what they grew from, with their holes, their numbers by the base types of their first holes, and their types; how many commands were
+/// carried out; and the moment from which delays count.
 #[derive(Drop)]
 pub struct Tables {
     pub basis: Basis,
@@ -45,6 +47,8 @@ pub struct Tables {
     pub terms: Enumerator,
     pub chosen: IdSet,
     pub described: IdSet,
+    pub offers: Offers,
+    pub bases: Vec<u32>,
     pub names: Enumerator,
     pub takers: Enumerator,
     pub stems: Vec<Stem>,

@@ -1,11 +1,14 @@
 -- Start units.
-use Rattle.std.specs.Prelude.{◌≡◌, [], ◌∷◌, ◌++◌, true, false, if◌then◌else◌, List, filter}
+use Rattle.std.specs.Prelude.{◌≡◌, [], ◌∷◌, ◌++◌, true, false, if◌then◌else◌, List, map, filter}
 use Rattle.std.specs.List.{list_any}
 use Rattle.stt_core.specs.PlainProblem.{PlainProblem}
 use Rattle.tableau_calculus.specs.Literals.{Literal}
 use Rattle.sat_base.specs.declared.literal.SatLit.{SatLit}
 use Rattle.command_queue.specs.Queue.{Queue}
-use Rattle.search_spec.specs.After.{starting_state}
+use Rattle.search_spec.specs.After.{nothing_yet}
+use Rattle.search_spec.specs.Heads.{HeadOffers}
+use Rattle.search_spec.specs.State.{State, Setting, process, with_commands}
+use Rattle.head_offers.specs.Offering.{the_offers}
 use Rattle.search_spec.specs.Clauses.{same_clause}
 use Rattle.search_spec.specs.Numbered.{numbers}
 use Rattle.search_spec.specs.Shallow.{is_shallow_literal}
@@ -26,9 +29,16 @@ pub record AddsUnit (lit : SatLit) (old new : Table) : Type 0 where
   pub clauses : new.0 ≡ (if list_any (same_clause numbers (lit ∷ [])) (the_clauses old) then old.0 else old.0 ++ (lit ∷ [], Start) ∷ [])
   pub instances : new.1 ≡ old.1
 
+-- the start of a run from these literals, where this is offered to holes
+abbrev pub start_offering : HeadOffers → Setting → List Literal → State
+start_offering offers setting start =
+    let literals = filter is_shallow_literal start in
+    with_commands setting.mode (map process literals)
+    (record nothing_yet { clauses = map (λ l. l ∷ []) literals; seen = literals; offers = offers })
+
 -- tables that began as the first ones, to which these literals of the start were added
 pub record IsStarting (t0 : Tables) (q0 : Queue Planned Delays) (t : Tables) (q : Queue Planned Delays) (ls : List Literal) : Type 0 where
-  pub state : the_state t q ≡ starting_state (setting_by t0 q0) ls
+  pub state : the_state t q ≡ start_offering (the_offers t0.offers) (setting_by t0 q0) ls
   pub right : IsRightState t q
   pub basis : BasisGrows t0.basis t.basis
   pub units : start_in t ≡ filter is_shallow_literal ls

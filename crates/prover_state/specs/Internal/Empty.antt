@@ -1,13 +1,14 @@
 -- Tables in which nothing was done yet.
 use Rattle.std.specs.Prelude.{◌≡◌, ℕ, false, List, []}
 use Rattle.stt_core.specs.Lambda.{Lambda}
-use Rattle.instantiate.specs.Listing.{Listing}
 use Rattle.mating_rules.specs.Noted.{IsRightIndex}
+use Rattle.head_offers.specs.declared.offers.Offers.{Offers}
+use Rattle.prover_state.specs.declared.offers.Offered.{Offered}
 use Rattle.prover_state.specs.declared.tables.Basis.{Basis}
 use Rattle.prover_state.specs.declared.tables.Tables.{Tables}
 
--- nothing is in the tables but a basis and numbers of names
-pub record AreEmpty (g : Basis) (listed : List Listing) (t : Tables) : Type 0 where
+-- nothing is in the tables but a basis and what is offered
+pub record AreEmpty (g : Basis) (given : Offers) (listed : Offered) (t : Tables) : Type 0 where
   pub basis : t.basis ≡ g
   pub steps : t.steps ≡ ([], [])
   pub solver : t.solver ≡ record { values = []; clauses = []; log = []; is_refuted = false }
@@ -19,7 +20,9 @@ pub record AreEmpty (g : Basis) (listed : List Listing) (t : Tables) : Type 0 wh
   pub terms : t.terms ≡ []
   pub chosen : t.chosen ≡ []
   pub described : t.described ≡ []
-  pub names : t.names ≡ listed
+  pub offers : t.offers ≡ given
+  pub bases : t.bases.items ≡ listed.bases.items
+  pub names : t.names ≡ listed.names
   pub takers : t.takers ≡ []
   pub stems : t.stems.items ≡ []
   pub open_holes : t.open_holes ≡ []

@@ -32,9 +32,10 @@ pub record BasisWidens (old new : Basis) : Type 0 where
   pub witnesses : Longer old.witnesses new.witnesses
   pub few : length new.witnesses ≤ suc (length old.witnesses)
 
--- what loops go over has become longer
+-- what loops go over has become longer, and what is offered to holes is the same
 pub record ExtendsState (old new : State) : Type 0 where
   pub noted : Longer old.noted new.noted
   pub terms : Longer old.terms new.terms
   pub rows : Longer old.rows new.rows
   pub parked : Longer old.parked new.parked
+  pub offers : new.offers ≡ old.offers

@@ -58,7 +58,7 @@ over_positives s c = []
 
 -- the loop over the heads for the partial term of a command, with the first witnesses
 abbrev pub over_heads : Scope → State → ℕ → Meant → List Meant
-over_heads scope s n (grow p h) = map (grow p) (heads_for (with_rows scope (take n s.rows)) (first_hole [] p.partial))
+over_heads scope s n (grow p h) = map (grow p) (heads_for s.offers (with_rows scope (take n s.rows)) (first_hole [] p.partial))
 over_heads scope s n c = []
 
 -- the loop over the partial terms that take the head of a command

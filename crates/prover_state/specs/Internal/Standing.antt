@@ -32,6 +32,8 @@ use Rattle.prover_state.specs.declared.tables.Tables.{Tables}
 use Rattle.prover_state.specs.Internal.Names.{Naming, typed_at, IsNumberIn, IsPlace}
 use Rattle.prover_state.specs.Internal.Heads.{sketches_of, AreStems}
 use Rattle.prover_state.specs.Internal.Holes.{holes_in}
+use Rattle.head_offers.specs.Offering.{the_offers}
+use Rattle.prover_state.specs.Internal.Offering.{ListsOffers}
 use Rattle.prover_state.specs.Internal.Pending.{loop_at, IsEntry}
 
 -- what is declared, without witnesses
@@ -69,6 +71,7 @@ state_parts t = record {
   pushes = 0;
   done = t.done;
   moment = t.moment;
+  offers = the_offers t.offers;
 }
 
 -- of the state, what loops of commands go over
@@ -78,6 +81,7 @@ sources t = record nothing_yet {
   terms = map (typed_at t.basis.bank.terms) t.terms;
   rows = rows_in t.basis;
   parked = sketches_in t;
+  offers = the_offers t.offers;
 }
 
 -- the loops of the commands that wait
@@ -121,7 +125,7 @@ pub record IsRightState (t : Tables) (q : Queue Planned Delays) : Type 0 where
   pub terms : Each (λ u. IsPlace t.basis.bank.terms u.1) t.terms
   pub chosen : Each (IsPlace t.basis.bank.terms) t.chosen
   pub described : Each (IsPlace t.basis.bank.terms) t.described
-  pub names : (n : ℕ) → ids_of (base n) t.names ≡ places_to n 0 (without_witnesses t.basis.bank).names
+  pub offered : ListsOffers (the_offers t.offers) t.names t.bases.items (without_witnesses t.basis.bank)
   pub takers : (n : ℕ) → ids_of (base n) t.takers ≡ places_to n 0 (map (λ r. r.type) (rows_in t.basis))
   pub stems : AreStems (scope_by t.basis) [] t.stems.items
   pub open_holes : t.open_holes ≡ map (λ p. holes_in [] p.partial) (sketches_in t)

@@ -1,5 +1,6 @@
 use Rattle.std.proofs.Common.{◌≡◌, [], length, Some, None, ap, ◌∙◌, arith}
 use Rattle.search_spec.specs.Partial.{first_hole}
+use Rattle.head_offers.specs.Offering.{the_offers}
 use Rattle.prover_state.specs.Internal.Fitting.{variables_for}
 use Rattle.prover_state.specs.Internal.Names.{sketch_at}
 use Rattle.prover_state.specs.Internal.Standing.{scope_by, sketches_in}
@@ -22,10 +23,12 @@ returns-in_ok-plus-in-Some c =
     let found = first-base-at t q r c.args.p c.requires.number (Some c.in-Some.base) (λ holes at. c.in-Some.ensures holes at) in
     let e = ap length (variables-at t q r c.args.p c.requires.number c.in_ok-variables-in-Some.variables.items c.in_ok-variables-in-Some.ensures) in
     let many : c.len.result ≡ length (variables_for o) = omega (arith, c.len.ensures, c.in_ok-variables-in-Some.variables.ok.0, e) in
-    c.in_ok-plus-in-Some.ensures ∙ count-heads (scope_by t.basis) o c.in-Some.base c.len.result c.in_ok-constants-in-Some.constants found many c.in_ok-constants-in-Some.ensures
+    c.in_ok-plus-in-Some.ensures
+    ∙ count-heads (the_offers t.offers) (scope_by t.basis) o c.in-Some.base c.len.result c.in_ok-constants-in-Some.constants c.in_ok-given-in-Some.given c.in_ok-logical-in-Some.logical found many
+    c.in_ok-constants-in-Some.ensures c.in_ok-given-in-Some.ensures c.in_ok-logical-in-Some.ensures
 
 pub returns-in-None : goal.returns-in-None
 returns-in-None c =
     let t = c.args.tables.now in
     let o = first_hole [] (sketch_at (sketches_in t) c.args.p).partial in
-    count-none (scope_by t.basis) o (first-base-at t c.requires.right.0 c.requires.right.1 c.args.p c.requires.number None c.in-None.ensures)
+    count-none (the_offers t.offers) (scope_by t.basis) o (first-base-at t c.requires.right.0 c.requires.right.1 c.args.p c.requires.number None c.in-None.ensures)

@@ -4,6 +4,7 @@ use Rattle.stt_core.specs.Lambda.{Lambda}
 use Rattle.witness_names.specs.Rows.{row_of}
 use Rattle.term_bank.specs.Terms.{term_at}
 use Rattle.search_spec.specs.Heads.{heads_for}
+use Rattle.head_offers.specs.Offering.{the_offers}
 use Rattle.search_spec.specs.Partial.{first_hole}
 use Rattle.search_spec.specs.State.{Command as Meant, grow, with_commands}
 use Rattle.prover_state.specs.Internal.Heads.{the_hole_head}
@@ -20,7 +21,7 @@ returns-then-count-eq0-clause-state g c =
     let x = sketch_at (sketches_in t) c.args.p in
     let mode = q.rule.mode in
     let s = the_state t q in
-    let none : heads_for (scope_by t.basis) (first_hole [] x.partial) ≡ [] = no-heads (heads_for (scope_by t.basis) (first_hole [] x.partial)) (omega (arith, c.in_ok-count.ensures, c.if-count-eq0.true)) in
+    let none : heads_for (the_offers t.offers) (scope_by t.basis) (first_hole [] x.partial) ≡ [] = no-heads (heads_for (the_offers t.offers) (scope_by t.basis) (first_hole [] x.partial)) (omega (arith, c.in_ok-count.ensures, c.if-count-eq0.true)) in
     sym (pushed-nothing mode s) ∙ ap (λ (hs : List Lambda). with_commands mode (map (grow x) hs) s) (sym none)
 
 pub fitting_head-requires-clause-few : goal.fitting_head-requires-clause-few

@@ -1,17 +1,18 @@
-use Rattle.std.proofs.Common.{◌≡◌, ◌<◌, ◌≤◌, ◌-◌, ℕ, List, [], length, take, slice_get, Some, sym, ap, ap₂, ◌∙◌, arith}
+use Rattle.std.proofs.Common.{◌≡◌, ◌<◌, ◌≤◌, ◌-◌, true, ℕ, List, [], length, take, slice_get, Some, sym, ap, ap₂, ◌∙◌, arith}
 use Rattle.std.proofs.lemmas.Option.{slice_get-get_or}
 use Rattle.stt_core.specs.Lambda.{bound}
 use Rattle.tableau_calculus.specs.Witnesses.{with_rows}
-use Rattle.search_spec.specs.Heads.{places_to, heads_for}
+use Rattle.search_spec.specs.Heads.{heads_for}
 use Rattle.search_spec.specs.Partial.{first_hole}
-use Rattle.prover_state.specs.Internal.Fitting.{variables_for, later_heads}
+use Rattle.prover_state.specs.Internal.Fitting.{variables_for, names_for, chooses_for, later_heads}
 use Rattle.prover_state.specs.Internal.Heads.{the_hole_head}
 use Rattle.prover_state.specs.Internal.Holes.{holes_in}
 use Rattle.prover_state.specs.Internal.Names.{sketch_at}
+use Rattle.head_offers.specs.Offering.{the_offers}
 use Rattle.prover_state.specs.Internal.Pending.{base_of}
 use Rattle.prover_state.specs.Internal.Standing.{without_witnesses, rows_in, sketches_in}
 use Rattle.prover_state.proofs.HoleLaws.{leftmost-first, holes-at, base-at}
-use Rattle.prover_state.proofs.FittingLaws.{heads-list, variable-at, name-at, later-within, later-at}
+use Rattle.prover_state.proofs.FittingLaws.{heads-list, variable-at, name-at, later-within, later-longer, later-same, later-at}
 use Rattle.prover_state.proofs.tables.Tables.fitting_head.Goals as goal
 
 pub returns-then-place-len : goal.returns-then-place-len
@@ -22,12 +23,14 @@ returns-then-place-len c =
     let o = first_hole [] (sketch_at (sketches_in t) c.args.p).partial in
     let scope = with_rows (without_witnesses t.basis.bank) (take c.args.witnesses (rows_in t.basis)) in
     let vs = variables_for o in
-    let ns = places_to (base_of o) 0 scope.names in
+    let offers = the_offers t.offers in
+    let chooses = chooses_for offers scope o in
+    let ns = names_for offers scope (base_of o) in
     let variables : c.in_ok-variables.variables.items ≡ vs = c.in_ok-variables.ensures (holes_in [] (sketch_at (sketches_in t) c.args.p).partial) (holes-at t q r c.args.p c.requires.number) ∙ ap variables_for (leftmost-first [] (sketch_at (sketches_in t) c.args.p).partial) in
-    let are = heads-list scope o c.args.place c.requires.within in
+    let are = heads-list offers scope o c.args.place c.requires.within in
     let got = c.in_ok-variables.variables.items in
     let within : c.args.place < length got = omega (arith, c.if-place-len.true, c.len.ensures, c.in_ok-variables.variables.ok.0) in
-    variable-at vs ns (later_heads scope (base_of o)) (heads_for scope o) are c.args.place c.index.result.now
+    variable-at vs ns (later_heads offers scope (base_of o) chooses) (heads_for offers scope o) are c.args.place c.index.result.now
     (ap (λ (xs : List ℕ). slice_get xs c.args.place) (sym variables) ∙ slice_get-get_or got c.args.place c.index.result.now within ∙ ap Some (sym c.index.ensures))
     ∙ ap (λ k. Some (bound k)) (sym c.in_ok-small.ensures)
 
@@ -39,15 +42,17 @@ returns-then-behind-names c =
     let o = first_hole [] (sketch_at (sketches_in t) c.args.p).partial in
     let scope = with_rows (without_witnesses t.basis.bank) (take c.args.witnesses (rows_in t.basis)) in
     let vs = variables_for o in
-    let ns = places_to (base_of o) 0 scope.names in
+    let offers = the_offers t.offers in
+    let chooses = chooses_for offers scope o in
+    let ns = names_for offers scope (base_of o) in
     let variables : c.in_ok-variables.variables.items ≡ vs = c.in_ok-variables.ensures (holes_in [] (sketch_at (sketches_in t) c.args.p).partial) (holes-at t q r c.args.p c.requires.number) ∙ ap variables_for (leftmost-first [] (sketch_at (sketches_in t) c.args.p).partial) in
-    let are = heads-list scope o c.args.place c.requires.within in
+    let are = heads-list offers scope o c.args.place c.requires.within in
     let same = base-at t q r c.args.p c.requires.number c.base-base.result c.base-base.ensures in
-    let names : c.terms_of-names.result.now ≡ ns = c.terms_of-names.ensures ∙ r.names c.base-base.result ∙ ap (λ b. places_to b 0 scope.names) same in
+    let names : c.terms_of-names.result.now ≡ ns = c.terms_of-names.ensures ∙ r.offered.names c.base-base.result ∙ ap (names_for offers scope) same in
     let count : c.len-2.result ≡ length vs = let e = ap length variables in omega (arith, c.len-2.ensures, c.in_ok-variables.variables.ok.0, e) in
     let passed : length vs ≤ c.args.place = let e = ap length variables in omega (arith, c.if-place-len.false, c.len.ensures, c.in_ok-variables.variables.ok.0, e) in
     let named = ap length names in
-    name-at vs ns (later_heads scope (base_of o)) (heads_for scope o) are c.args.place c.id_of.result passed
+    name-at vs ns (later_heads offers scope (base_of o) chooses) (heads_for offers scope o) are c.args.place c.id_of.result passed
     (ap₂ (λ (xs : List ℕ) n. slice_get xs (c.args.place - n)) (sym names) (sym count) ∙ c.id_of.ensures)
 
 pub later_head-requires-clause-within : goal.later_head-requires-clause-within
@@ -58,17 +63,20 @@ later_head-requires-clause-within c =
     let o = first_hole [] (sketch_at (sketches_in t) c.args.p).partial in
     let scope = with_rows (without_witnesses t.basis.bank) (take c.args.witnesses (rows_in t.basis)) in
     let vs = variables_for o in
-    let ns = places_to (base_of o) 0 scope.names in
+    let offers = the_offers t.offers in
+    let chooses = chooses_for offers scope o in
+    let ns = names_for offers scope (base_of o) in
     let variables : c.in_ok-variables.variables.items ≡ vs = c.in_ok-variables.ensures (holes_in [] (sketch_at (sketches_in t) c.args.p).partial) (holes-at t q r c.args.p c.requires.number) ∙ ap variables_for (leftmost-first [] (sketch_at (sketches_in t) c.args.p).partial) in
-    let are = heads-list scope o c.args.place c.requires.within in
+    let are = heads-list offers scope o c.args.place c.requires.within in
     let same = base-at t q r c.args.p c.requires.number c.base-base.result c.base-base.ensures in
-    let names : c.terms_of-names.result.now ≡ ns = c.terms_of-names.ensures ∙ r.names c.base-base.result ∙ ap (λ b. places_to b 0 scope.names) same in
+    let names : c.terms_of-names.result.now ≡ ns = c.terms_of-names.ensures ∙ r.offered.names c.base-base.result ∙ ap (names_for offers scope) same in
     let count : c.len-2.result ≡ length vs = let e = ap length variables in omega (arith, c.len-2.ensures, c.in_ok-variables.variables.ok.0, e) in
     let passed : length vs ≤ c.args.place = let e = ap length variables in omega (arith, c.if-place-len.false, c.len.ensures, c.in_ok-variables.variables.ok.0, e) in
     let named = ap length names in
-    let within = later-within vs ns (later_heads scope (base_of o)) (heads_for scope o) are c.args.place c.requires.within passed (omega (arith, c.if-behind-names.false, count, named)) in
-    let size = ap (λ b. length (later_heads scope b)) same in
-    omega (arith, within, count, named, size)
+    let within = later-within vs ns (later_heads offers scope (base_of o) chooses) (heads_for offers scope o) are c.args.place c.requires.within passed (omega (arith, c.if-behind-names.false, count, named)) in
+    let longer = later-longer offers scope (base_of o) chooses in
+    let size = ap (λ b. length (later_heads offers scope b true)) same in
+    omega (arith, within, count, named, longer, size)
 
 pub returns : goal.returns
 returns c =
@@ -78,14 +86,19 @@ returns c =
     let o = first_hole [] (sketch_at (sketches_in t) c.args.p).partial in
     let scope = with_rows (without_witnesses t.basis.bank) (take c.args.witnesses (rows_in t.basis)) in
     let vs = variables_for o in
-    let ns = places_to (base_of o) 0 scope.names in
+    let offers = the_offers t.offers in
+    let chooses = chooses_for offers scope o in
+    let ns = names_for offers scope (base_of o) in
     let variables : c.in_ok-variables.variables.items ≡ vs = c.in_ok-variables.ensures (holes_in [] (sketch_at (sketches_in t) c.args.p).partial) (holes-at t q r c.args.p c.requires.number) ∙ ap variables_for (leftmost-first [] (sketch_at (sketches_in t) c.args.p).partial) in
-    let are = heads-list scope o c.args.place c.requires.within in
+    let are = heads-list offers scope o c.args.place c.requires.within in
     let same = base-at t q r c.args.p c.requires.number c.base-base.result c.base-base.ensures in
-    let names : c.terms_of-names.result.now ≡ ns = c.terms_of-names.ensures ∙ r.names c.base-base.result ∙ ap (λ b. places_to b 0 scope.names) same in
+    let names : c.terms_of-names.result.now ≡ ns = c.terms_of-names.ensures ∙ r.offered.names c.base-base.result ∙ ap (names_for offers scope) same in
     let count : c.len-2.result ≡ length vs = let e = ap length variables in omega (arith, c.len-2.ensures, c.in_ok-variables.variables.ok.0, e) in
     let passed : length vs ≤ c.args.place = let e = ap length variables in omega (arith, c.if-place-len.false, c.len.ensures, c.in_ok-variables.variables.ok.0, e) in
     let named = ap length names in
-    let at = ap (λ b. slice_get (later_heads scope b) (c.args.place - c.len-2.result - length c.terms_of-names.result.now)) (sym same) ∙ c.in_ok-later_head.ensures in
-    later-at vs ns (later_heads scope (base_of o)) (heads_for scope o) are c.args.place (the_hole_head c.in_ok-later_head.field-0) passed (omega (arith, c.if-behind-names.false, count, named))
-    (ap₂ (λ m n. slice_get (later_heads scope (base_of o)) (c.args.place - m - n)) (sym count) (sym named) ∙ at)
+    let place = c.args.place - length vs - length ns in
+    let behind : length ns ≤ c.args.place - length vs = omega (arith, c.if-behind-names.false, count, named) in
+    let within = later-within vs ns (later_heads offers scope (base_of o) chooses) (heads_for offers scope o) are c.args.place c.requires.within passed behind in
+    let at = ap (λ b. slice_get (later_heads offers scope b true) (c.args.place - c.len-2.result - length c.terms_of-names.result.now)) (sym same) ∙ c.later_head.ensures in
+    later-at vs ns (later_heads offers scope (base_of o) chooses) (heads_for offers scope o) are c.args.place (the_hole_head c.later_head.result) passed behind
+    (later-same offers scope (base_of o) chooses place within ∙ ap₂ (λ m n. slice_get (later_heads offers scope (base_of o) true) (c.args.place - m - n)) (sym count) (sym named) ∙ at)

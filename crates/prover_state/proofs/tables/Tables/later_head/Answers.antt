@@ -1,6 +1,7 @@
 use Rattle.std.proofs.Common.{◌≡◌, ◌<◌, ◌-◌, ltb, rules, ℕ, List, length, map, slice_get, sym, ap, subst, ◌∙◌, arith}
 use Rattle.std.specs.List.Sorted.{IsNonDecreasingBy}
 use Rattle.std.proofs.lemmas.List.Sorted.{IsPartitionedBy-ltb, IsPartitionPoint-from_clause}
+use Rattle.stt_core.specs.SimpleType.{base}
 use Rattle.tableau_calculus.specs.Witnesses.{Row}
 use Rattle.prover_state.specs.Internal.Fitting.{logical_for, SplitsAt}
 use Rattle.prover_state.specs.Internal.Heads.{the_hole_head}
@@ -30,8 +31,7 @@ logical_head-requires c =
     let below = IsPartitionPoint-from_clause (λ y. ltb y c.args.witnesses) takers k c.partition_point-count.ensures.partitioned (IsPartitionedBy-ltb (λ i. i) takers c.args.witnesses ascend) (λ a r f' k. search rules) in
     let splits = splits-from c.args.witnesses takers k c.partition_point-count.ensures.bound below in
     let S : List ℕ → Type 0 = λ xs. SplitsAt c.args.witnesses xs k in
-    let bases : length t.basis.bank.bases ≡ c.len-bases.result = sym (c.len-bases.ensures ∙ ap length c.sig.ensures.bases) in
-    subst (λ n. c.args.place - k < length (logical_for n c.args.base)) bases
+    subst (λ (bs : List ℕ). c.args.place - k < length (logical_for (map base bs) c.args.base)) (sym c.as_slice.ensures.value)
     (logical-below t c.requires.right.0 c.requires.right.1 c.args.base c.args.witnesses c.requires.few k (subst S c.terms_of-takers.ensures splits) c.args.place (omega (arith, c.if-place-count.false)) c.requires.within)
 
 pub returns : goal.returns
@@ -43,6 +43,5 @@ returns c =
     let below = IsPartitionPoint-from_clause (λ y. ltb y c.args.witnesses) takers k c.partition_point-count.ensures.partitioned (IsPartitionedBy-ltb (λ i. i) takers c.args.witnesses ascend) (λ a r f' k. search rules) in
     let splits = splits-from c.args.witnesses takers k c.partition_point-count.ensures.bound below in
     let S : List ℕ → Type 0 = λ xs. SplitsAt c.args.witnesses xs k in
-    let bases : length t.basis.bank.bases ≡ c.len-bases.result = sym (c.len-bases.ensures ∙ ap length c.sig.ensures.bases) in
-    logical-there t c.requires.right.0 c.requires.right.1 c.args.base c.args.witnesses c.requires.few k (subst S c.terms_of-takers.ensures splits) c.args.place (the_hole_head c.in_ok-logical_head.field-0) (omega (arith, c.if-place-count.false))
-    (ap (λ n. slice_get (logical_for n c.args.base) (c.args.place - k)) bases ∙ c.in_ok-logical_head.ensures)
+    logical-there t c.requires.right.0 c.requires.right.1 c.args.base c.args.witnesses c.requires.few k (subst S c.terms_of-takers.ensures splits) c.args.place (the_hole_head c.logical_head.result) (omega (arith, c.if-place-count.false))
+    (ap (λ (bs : List ℕ). slice_get (logical_for (map base bs) c.args.base) (c.args.place - k)) (sym c.as_slice.ensures.value) ∙ c.logical_head.ensures)

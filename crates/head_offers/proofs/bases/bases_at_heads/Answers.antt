@@ -1,0 +1,16 @@
+use Rattle.std.proofs.Common.{Bool, map, sym, ap, ◌∙◌, arith}
+use Rattle.stt_core.specs.TypedName.{TypedName}
+use Rattle.term_bank.specs.Terms.{term_at}
+use Rattle.search_spec.specs.Offers.{is_over}
+use Rattle.head_offers.specs.Internal.Passing.{head_passes}
+use Rattle.head_offers.proofs.PassLaws.{any-more}
+use Rattle.head_offers.proofs.bases.bases_at_heads.Goals as goal
+
+pub loop-i-preserved : goal.loop-i-preserved
+loop-i-preserved c =
+    let ts = c.args.bank.now.terms in
+    let inv = c.loop-i.invariant in
+    record {
+      length = c.mark_at.ensures.length ∙ inv.length;
+      flags = λ k h. any-more (λ id. head_passes (is_over (map (λ (x : TypedName). x.type) c.args.bank.now.consts) k) (term_at ts id)) c.args.found.now c.loop-i.i _ _ _ (omega (arith, c.loop-i-test.true)) (inv.flags k h) (c.mark_at.ensures.flags k (omega (arith, h, inv.length)));
+    }

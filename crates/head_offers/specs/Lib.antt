@@ -1,0 +1,12 @@
+pub use Rattle.mode_file.specs.Given
+pub use Rattle.search_spec.specs.Heads
+pub use Rattle.search_spec.specs.Offers
+pub use Rattle.stt_core.specs.Lambda
+pub use Rattle.stt_core.specs.SimpleType
+pub use Rattle.stt_core.specs.Typing
+pub use Rattle.stt_core.specs.View
+pub use Rattle.term_bank.specs.Content
+pub use Rattle.term_bank.specs.NodeView
+pub use Rattle.term_bank.specs.Terms
+pub mod Offering
+pub mod Internal
