@@ -1,6 +1,6 @@
 use Rattle.term_bank.specs.Content.{content_scope}
 use Rattle.tableau_rebuild.specs.Tables.{atoms_at, the_input, unit_literals}
-use Rattle.tableau_rebuild.proofs.refutation.rebuild.Goals as goal
+use Rattle.tableau_rebuild.proofs.refutation.rebuild_shared.Goals as goal
 
 pub returns-clause-accepted : goal.returns-clause-accepted
 returns-clause-accepted c =
