@@ -1,4 +1,4 @@
-use Rattle.std.proofs.Common.{rules, ◌≡◌, map, arith}
+use Rattle.std.proofs.Common.{◌≡◌, map, arith}
 use Rattle.std.proofs.lemmas.Grind.{common_steps}
 use Rattle.search_spec.specs.Numbered.{literal_at}
 use Rattle.tableau_rebuild.specs.Tables.{atoms_at}
