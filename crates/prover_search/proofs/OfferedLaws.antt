@@ -50,11 +50,11 @@ module _ (P : Literal → Bool) where
   -- what one literal of a list has the list has
   seen_any : (ls : List Literal) (l : Literal) → has formulas ls l ≡ true → any (l ∷ []) ≡ true → any ls ≡ true
   seen_any [] l h e = cc
-  seen_any (k ∷ ks) l h e = any_append (k ∷ []) ks ∙ by_test (same_signed l k) refl h
+  seen_any (k ∷ ks) l h e = any_append (k ∷ []) ks ∙ by_test (same_signed l k) refl h (λ g. seen_any ks l g e)
     where
-      by_test : (b : Bool) → same_signed l k ≡ b → (b || has formulas ks l) ≡ true → (any (k ∷ []) || any ks) ≡ true
-      by_test true same g = ap (λ (x : Literal). any (x ∷ []) || any ks) (sym (same_literal-true l k same)) ∙ ap (λ (b : Bool). b || any ks) e
-      by_test false same g = ap (λ (b : Bool). any (k ∷ []) || b) (seen_any ks l g e) ∙ or_true (any (k ∷ []))
+      by_test : (b : Bool) → same_signed l k ≡ b → (b || has formulas ks l) ≡ true → (has formulas ks l ≡ true → any ks ≡ true) → (any (k ∷ []) || any ks) ≡ true
+      by_test true same g rest = ap (λ (x : Literal). any (x ∷ []) || any ks) (sym (same_literal-true l k same)) ∙ ap (λ (b : Bool). b || any ks) e
+      by_test false same g rest = ap (λ (b : Bool). any (k ∷ []) || b) (rest g) ∙ or_true (any (k ∷ []))
 
   -- an element that is there already adds nothing
   added_one : (ls : List Literal) (l : Literal) → any (if has formulas ls l then ls else ls ++ l ∷ []) ≡ (any ls || any (l ∷ []))

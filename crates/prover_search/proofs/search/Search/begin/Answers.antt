@@ -39,9 +39,9 @@ returns-in-Ok-clause-under_way g c =
     let prepared = c.requires.prepared in
     let bases = ap (λ (b : Basis). b.bank.bases) made.basis ∙ prepared.bases in
     let consts = ap (λ (b : Basis). b.bank.consts) made.basis ∙ prepared.consts in
-    let begins : without_repeats (map (bank_literal core.tables.basis.bank.terms core.tables.basis.lits) c.as_slice.result.now) ≡ start p =
-    ap (λ (b : Basis). without_repeats (map (bank_literal b.bank.terms b.lits) c.as_slice.result.now)) made.basis
-    ∙ ap (λ (ls : List SatLit). without_repeats (map (bank_literal c.args.prepared.basis.bank.terms c.args.prepared.basis.lits) ls)) c.as_slice.ensures.value
+    let begins : without_repeats (map (bank_literal core.tables.basis.bank.terms core.tables.basis.lits) c.as_slice-2.result.now) ≡ start p =
+    ap (λ (b : Basis). without_repeats (map (bank_literal b.bank.terms b.lits) c.as_slice-2.result.now)) made.basis
+    ∙ ap (λ (ls : List SatLit). without_repeats (map (bank_literal c.args.prepared.basis.bank.terms c.args.prepared.basis.lits) ls)) c.as_slice-2.ensures.value
     ∙ ap without_repeats prepared.numbers.literals in
     let offered : the_offers core.tables.offers ≡ offered_heads core.plan.rule.mode (without_witnesses core.tables.basis.bank) (filter is_shallow_literal (start p)) =
     ap (λ (s : State). s.offers) made.state
