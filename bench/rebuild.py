@@ -13,6 +13,7 @@ SOURCES = {
     "sat_propagate": ["packed"],
     "stt_core": ["ty", "nf"],
     "tableau_calculus": ["lit", "refutation"],
+    "refute_share": ["term", "lit", "refutation", "pool", "plain"],
     "literal_map": ["instance"],
     "tableau_clauses": ["origin"],
     "tableau_rebuild": [
@@ -39,6 +40,7 @@ pub mod rt {
         pub fn push(&mut self, x: T) -> Result<(), AllocError> { self.0.push(x); Ok(()) }
         pub fn push_reserved(&mut self, x: T) { self.0.push(x) }
         pub fn reserve(&mut self, n: usize) -> Result<(), AllocError> { self.0.reserve(n); Ok(()) }
+        pub fn reserve_exact(&mut self, n: usize) -> Result<(), AllocError> { self.0.reserve_exact(n); Ok(()) }
         pub fn pop(&mut self) -> Option<T> { self.0.pop() }
         pub fn insert(&mut self, i: usize, x: T) -> Result<(), AllocError> { self.0.insert(i, x); Ok(()) }
         pub fn clear(&mut self) { self.0.clear() }
@@ -134,7 +136,10 @@ pub mod rebuild_spec {
 BESIDE = {
     "literal_map": """
         pub struct LitTable { pub atoms: std::vec::Vec<usize> }
-        impl LitTable { pub fn formula_of(&self, lit: crate::sat_base::SatLit) -> usize { self.atoms[lit.var.0] } }
+        impl LitTable {
+            pub fn len(&self) -> usize { self.atoms.len() }
+            pub fn formula_of(&self, lit: crate::sat_base::SatLit) -> usize { self.atoms[lit.var.0] }
+        }
     """,
     "tableau_clauses": """
         use crate::literal_map::Instance;
@@ -151,6 +156,7 @@ BESIDE = {
     "stt_core": """
         use crate::rt::{AllocError, Global};
         pub fn same_nf(_: &Nf, _: &Nf) -> bool { false }
+        impl Types { pub fn try_clone(&self, _: Global) -> Result<Types, AllocError> { Ok(Types::new(Global)) } }
         impl Nf { pub fn try_clone(&self, _: Global) -> Result<Nf, AllocError> { Err(AllocError) } }
     """,
     "tableau_rebuild": """
@@ -170,7 +176,7 @@ def without_ghosts(lines):
     kept, at = [], 0
     while at < len(lines):
         words = lines[at].strip()
-        if re.match(r"(requires|ensures|ghost)\b", words) or words.startswith("impl Model for"):
+        if re.match(r"(requires|ensures|ghost)\b", words) or words.startswith(("impl Model for", "impl Drop for")):
             level = depth(lines[at])
             while level > 0 or (words.startswith("ghost") and not lines[at].rstrip().endswith((";", ","))):
                 at += 1

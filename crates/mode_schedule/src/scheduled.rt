@@ -20,9 +20,9 @@ use crate::turns::{SliceWeigher, Turn};
 use command_queue::Weigher;
 use prover_run::refutation_of;
 use prover_search::{Prepared, Search, Waiting};
+use refute_share::SharedRefutation;
 use std::alloc::{AllocError, Global};
 use stt_core::Problem;
-use tableau_calculus::Refutation;
 
 /// How the schedule of blocks over a problem ends. Where it is closed, the refutation is that of the block's run. Blocks are counted from
 /// 0, and `total` is the number of the commands of all runs.
@@ -31,7 +31,7 @@ pub enum Scheduled {
     Closed {
         block: u32,
         total: u32,
-        refutation: Refutation,
+        refutation: SharedRefutation,
     },
     Empty {
         total: u32,

@@ -14,3 +14,4 @@ pub mod CarriedLaws
 pub mod ReachedLaws
 pub mod UsedLaws
 pub mod SmallTrees
+mod BegunLaws

@@ -1,12 +1,19 @@
 //! What is left where the cuts are taken away.
 
-use tableau_calculus::{Lits, Refutation};
+use refute_share::{SharedLits, SharedRefutation};
 
 /// A tree without cut as a refutation, with how many nodes it has; the first branch that stays open; or that a tree would have more nodes
 /// than these.
 #[derive(Drop)]
 pub enum Stripped {
-    Tree { refutation: Refutation, nodes: u32 },
-    Open { branch: Lits },
-    Over { nodes: u32 },
+    Tree {
+        refutation: SharedRefutation,
+        nodes: u32,
+    },
+    Open {
+        branch: SharedLits,
+    },
+    Over {
+        nodes: u32,
+    },
 }

@@ -20,9 +20,10 @@ ghost use Rattle.plain_tableau.specs.Internal.Walking.{IsFull, IsAhead, IsBack, 
 use crate::path::Path;
 use crate::writing::Writing;
 use literal_map::LitTable;
+use refute_share::{SharedLits, SharedRefutation};
 use sat_base::SatLit;
 use std::alloc::{AllocError, Global};
-use tableau_calculus::{Child, Children, Lits, Refutation};
+use tableau_calculus::{Child, Children};
 use tableau_clauses::StepTable;
 use term_bank::Bank;
 use witness_names::Witnesses;
@@ -304,7 +305,7 @@ impl Walk {
         bank: &Bank,
         atoms: &LitTable,
         witnesses: &Witnesses,
-    ) -> Result<Refutation, AllocError>
+    ) -> Result<SharedRefutation, AllocError>
         requires rows { AreRows bank.now witnesses.now }
         requires writing { IsWriting bank.now atoms.now witnesses.now self.writing }
         ensures lines { IfOk result (λ refutation. refutation.lines ≡ self.writing.lines) }
@@ -322,7 +323,7 @@ impl Walk {
         bank: &Bank,
         atoms: &LitTable,
         witnesses: &Witnesses,
-    ) -> Result<Lits, AllocError>
+    ) -> Result<SharedLits, AllocError>
         requires atoms { All (IsAtom bank.now) atoms.now }
         requires numbered { IsOver (length atoms.now) self.old.path.literals.keys }
         requires writing { IsWriting bank.now atoms.now witnesses.now self.old.writing }

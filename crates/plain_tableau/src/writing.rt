@@ -1,5 +1,5 @@
 //! The lines of nodes.
-ghost use Rattle.std.specs.Prelude.{◌≡◌, ◌<◌, ◌++◌, List, max, [], ◌∷◌, length, take, IfOk, OnOk, All};
+ghost use Rattle.std.specs.Prelude.{◌≡◌, ◌<◌, ◌++◌, ℕ, List, max, [], ◌∷◌, length, take, IfOk, OnOk, All};
 ghost use Rattle.std.specs.List.{AllByRecursion};
 ghost use Rattle.stt_core.specs.Lambda.{Lambda};
 ghost use Rattle.sat_base.specs.Literal.{IsOver};
@@ -18,9 +18,10 @@ ghost use Rattle.plain_tableau.specs.Tables.{expanded};
 ghost use Rattle.plain_tableau.specs.Internal.Writing.{IsWriting};
 
 use literal_map::{Instance, LitTable};
+use refute_share::{SharedLine, SharedLines, SharedLits, SharedRefutation, SharedRule};
 use sat_base::SatLit;
 use std::alloc::{AllocError, Global};
-use tableau_calculus::{Children, Line, Lines, Lits, Refutation, RuleUse};
+use tableau_calculus::Children;
 use tableau_rebuild::{
     Pool, line_in_range, lits_of, places_of, position, rows_for_branch, rows_for_instance, rule_of,
     write_rows,
@@ -31,7 +32,7 @@ use witness_names::Witnesses;
 /// Lines, how many rows of the witness table they need, and the literals that they share.
 #[derive(Drop)]
 pub(crate) struct Writing {
-    lines: Lines,
+    lines: SharedLines,
     rows: usize,
     pool: Pool,
 }
@@ -45,18 +46,18 @@ fn line_with(
     branch: &[SatLit],
     children: Children,
     pool: &mut Pool,
-) -> Result<Line, AllocError>
+) -> Result<SharedLine, AllocError>
     requires atoms { All (IsAtom bank.now) atoms.now }
     requires numbered { IsOver (length atoms.now) branch.now }
     requires good { IsGoodUse bank.now atoms.now instance.now.by }
-    requires made { IsMadePool (atoms_at bank.now.terms atoms.now) pool.old }
-    ensures made { OnOk result (IsMadePool (atoms_at bank.now.terms atoms.now) pool.new) }
+    requires made { IsMadePool bank.now.terms atoms.now pool.old }
+    ensures made { OnOk result (IsMadePool bank.now.terms atoms.now pool.new) }
     ensures line { IfOk result (λ line. line ≡ node_line (atoms_at bank.now.terms atoms.now) (expanded (the_instance bank.now.terms atoms.now instance.now)) branch.now children) }
 {
     let literals = lits_of(alloc, bank, atoms, branch, pool)?;
     let places = places_of(alloc, branch, &instance.principals)?;
-    let rule = rule_of(bank, atoms, &instance.by, &places)?;
-    Ok(Line {
+    let rule = rule_of(bank, atoms, &instance.by, &places, pool)?;
+    Ok(SharedLine {
         branch: literals,
         rule,
         children,
@@ -71,16 +72,16 @@ fn closing_line(
     lit: SatLit,
     branch: &[SatLit],
     pool: &mut Pool,
-) -> Result<Line, AllocError>
+) -> Result<SharedLine, AllocError>
     requires atoms { All (IsAtom bank.now) atoms.now }
     requires numbered { IsOver (length atoms.now) branch.now }
-    requires made { IsMadePool (atoms_at bank.now.terms atoms.now) pool.old }
-    ensures made { OnOk result (IsMadePool (atoms_at bank.now.terms atoms.now) pool.new) }
+    requires made { IsMadePool bank.now.terms atoms.now pool.old }
+    ensures made { OnOk result (IsMadePool bank.now.terms atoms.now pool.new) }
     ensures line { IfOk result (λ line. line ≡ node_line (atoms_at bank.now.terms atoms.now) (closing numbers lit) branch.now []) }
 {
     let literals = lits_of(alloc, bank, atoms, branch, pool)?;
-    let rule = RuleUse::Close(position(branch, lit), position(branch, lit.negated()));
-    Ok(Line {
+    let rule = SharedRule::Close(position(branch, lit), position(branch, lit.negated()));
+    Ok(SharedLine {
         branch: literals,
         rule,
         children: Children::new(alloc),
@@ -92,17 +93,17 @@ impl Writing {
     pub(crate) fn new(alloc: Global) -> Writing
         ensures lines { result.lines ≡ [] }
         ensures rows { result.rows ≡ 0 }
-        ensures made { (terms : List Lambda) → IsMadePool terms result.pool }
+        ensures made { (terms : List Lambda) (atoms : List ℕ) → IsMadePool terms atoms result.pool }
     {
         Writing {
-            lines: Lines::new(alloc),
+            lines: SharedLines::new(alloc),
             rows: 0,
             pool: Pool::new(alloc),
         }
     }
 
     /// Writes a line that needs so many rows. The answer is its number.
-    fn push(&mut self, line: Line, rows: usize) -> Result<usize, AllocError>
+    fn push(&mut self, line: SharedLine, rows: usize) -> Result<usize, AllocError>
         requires in_range { AllByRecursion HasNumbers self.old.lines }
         ensures lines { OnOk result (self.new.lines ≡ self.old.lines ++ line ∷ []) }
         ensures in_range { OnOk result (AllByRecursion HasNumbers self.new.lines) }
@@ -181,7 +182,7 @@ impl Writing {
         atoms: &LitTable,
         witnesses: &Witnesses,
         branch: &[SatLit],
-    ) -> Result<Lits, AllocError>
+    ) -> Result<SharedLits, AllocError>
         requires atoms { All (IsAtom bank.now) atoms.now }
         requires numbered { IsOver (length atoms.now) branch.now }
         requires writing { IsWriting bank.now atoms.now witnesses.now self.old }
@@ -197,7 +198,7 @@ impl Writing {
         bank: &Bank,
         atoms: &LitTable,
         witnesses: &Witnesses,
-    ) -> Result<Refutation, AllocError>
+    ) -> Result<SharedRefutation, AllocError>
         requires rows { AreRows bank.now witnesses.now }
         requires writing { IsWriting bank.now atoms.now witnesses.now self }
         ensures lines { IfOk result (λ refutation. refutation.lines ≡ self.lines) }
@@ -207,7 +208,7 @@ impl Writing {
         let _atoms = atoms.len();
         let _count = self.lines.len();
         let rows = write_rows(alloc, bank, witnesses, self.rows)?;
-        Ok(Refutation {
+        Ok(SharedRefutation {
             witnesses: rows,
             lines: self.lines,
         })

@@ -1,7 +1,7 @@
 //! How runs end.
 
 use plain_tableau::Stripped;
-use tableau_calculus::Refutation;
+use refute_share::SharedRefutation;
 
 /// How a run ends: after so many commands its clauses have no satisfying assignment, as a refutation shows, with what comes of a tree
 /// without cut where one is asked for; after so many no command is left; the limit of commands is reached; or the conflicts of the mode are
@@ -10,7 +10,7 @@ use tableau_calculus::Refutation;
 pub enum Ended {
     Proved {
         commands: u32,
-        refutation: Refutation,
+        refutation: SharedRefutation,
         tree: Option<Stripped>,
     },
     GaveUp {

@@ -22,14 +22,14 @@ use command_queue::Weigher;
 use mode_file::Mode;
 use prover_search::{Command, Search, Stepped, Waiting};
 use prover_state::Tables;
+use refute_share::SharedRefutation;
 use std::alloc::{AllocError, Global};
 use stt_core::Problem;
-use tableau_calculus::Refutation;
-use tableau_rebuild::rebuild;
+use tableau_rebuild::rebuild_shared;
 use term_bank::equal_ids_for_equal_terms;
 
 /// The refutation that is rebuilt from the tables of a run whose clauses are unsatisfiable.
-fn refutation_by(alloc: Global, tables: &Tables) -> Result<Refutation, AllocError>
+fn refutation_by(alloc: Global, tables: &Tables) -> Result<SharedRefutation, AllocError>
     requires run { AreRunTables tables.now }
     requires ends { results tables.now.solver.log ≡ learned tables.now.solver ++ [] ∷ [] }
     requires propagated { ReachesFalse (tables.now.solver.clauses ++ learned tables.now.solver) [] }
@@ -40,7 +40,7 @@ fn refutation_by(alloc: Global, tables: &Tables) -> Result<Refutation, AllocErro
     tables.basis.lits.atoms_differ();
     let log = tables.solver.log();
     let basis = &tables.basis;
-    let refutation = rebuild(
+    let refutation = rebuild_shared(
         alloc,
         &basis.bank,
         &basis.lits,
@@ -52,7 +52,7 @@ fn refutation_by(alloc: Global, tables: &Tables) -> Result<Refutation, AllocErro
 }
 
 /// The refutation from the log of a run whose clauses are unsatisfiable. It is small enough for a text, as all terms of a run are.
-pub fn refutation_of(alloc: Global, tables: &Tables) -> Result<Refutation, AllocError>
+pub fn refutation_of(alloc: Global, tables: &Tables) -> Result<SharedRefutation, AllocError>
     requires run { AreRunTables tables.now }
     requires ends { results tables.now.solver.log ≡ learned tables.now.solver ++ [] ∷ [] }
     requires propagated { ReachesFalse (tables.now.solver.clauses ++ learned tables.now.solver) [] }

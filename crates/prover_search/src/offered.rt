@@ -18,11 +18,7 @@ use std::alloc::{AllocError, Global};
 use term_bank::Id;
 
 /// The atoms of the literals that aren't too deep.
-fn shallow_atoms(
-    alloc: Global,
-    basis: &Basis,
-    start: &[SatLit],
-) -> Result<Vec<Id>, AllocError>
+fn shallow_atoms(alloc: Global, basis: &Basis, start: &[SatLit]) -> Result<Vec<Id>, AllocError>
     requires basis { IsBasis basis.now }
     requires numbers { All (IsNumberIn basis.now.lits) start.now }
     ensures within { IfOk result (λ atoms. All (λ id. id < length basis.now.bank.terms) atoms.items) }

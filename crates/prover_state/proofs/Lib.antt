@@ -29,6 +29,7 @@ pub mod ChainLaws
 pub mod HoleLaws
 pub mod FittingLaws
 pub mod OfferingLaws
+pub mod VariableLaws
 pub mod EvenLaws
 pub mod PieceLaws
 pub mod AscendingLaws

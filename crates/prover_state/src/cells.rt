@@ -1,5 +1,6 @@
 //! Holes in lists that share their ends.
 ghost use Rattle.std.specs.Prelude.{◌≡◌, ◌<◌, ◌≤◌, ◌++◌, [], ◌∷◌, length, nat_eq, reverse, if◌then◌else◌, Some, slice_get, option_map, IfOk, OnOk};
+ghost use Rattle.stt_core.specs.SimpleType.{SimpleType, target};
 ghost use Rattle.stt_core.specs.Typing.{type_of};
 ghost use Rattle.stt_core.specs.View.{the_type, the_head};
 ghost use Rattle.term_bank.specs.Content.{content_scope};
@@ -7,22 +8,21 @@ ghost use Rattle.search_spec.specs.Heads.{places_to};
 ghost use Rattle.prover_state.specs.Internal.Holes.{binders_onto, blank_hole, argument_holes, after_head};
 ghost use Rattle.prover_state.specs.Internal.Chains.{chain, ExtendsCells};
 
-use crate::contexts::Contexts;
+use crate::contexts::{Contexts, Variables};
 use crate::fitting::small;
 use instantiate::target_of;
 use std::alloc::{AllocError, Global};
 use std::marker::Model;
 use std::rc::Rc;
-use stt_core::{Context, Head, Ty, Types};
+use stt_core::{Context, Head, Ty};
 use term_bank::Bank;
 
-/// A hole: its base type, and the types of the variables in scope there, outermost first, which holes share. The holes after it are
-/// the list of a number.
+/// A hole: its base type, and the variables in scope there, which holes share. The holes after it are the list of a number.
 #[derive(Drop)]
 pub(crate) struct Cell {
     base: u32,
     rest: u32,
-    context: Rc<Types>,
+    context: Rc<Variables>,
 }
 
 impl Model for Cell {
@@ -48,9 +48,9 @@ fn push_where(places: &mut Vec<usize>, fits: bool, place: usize) -> Result<(), A
 }
 
 impl Cell {
-    /// The types of the variables in scope, outermost first.
-    pub(crate) fn context(&self) -> Result<Rc<Types>, AllocError>
-        ensures { IfOk result (λ types. reverse types.value ≡ self.now.0.context) }
+    /// The variables in scope.
+    pub(crate) fn context(&self) -> Result<Rc<Variables>, AllocError>
+        ensures { IfOk result (λ variables. reverse variables.value ≡ self.now.0.context) }
     {
         Ok(Rc::clone(&self.context)?)
     }
@@ -72,7 +72,7 @@ impl Cell {
     pub(crate) fn head_type(&self, bank: &Bank, head: &Head) -> Result<Option<Ty>, AllocError>
         ensures { IfOk result (λ o. option_map the_type o ≡ type_of (content_scope bank.now) self.now.0.context (the_head head.now)) }
     {
-        Ok(bank.head_type(&Context::Outer(&self.context), head)?)
+        Ok(bank.head_type(&Context::Outer(self.context.types()), head)?)
     }
 
     /// How many variables are in scope.
@@ -82,15 +82,12 @@ impl Cell {
         self.context.len()
     }
 
-    /// The type of a variable.
-    fn type_of(&self, i: usize) -> &Ty
+    /// The number of the target type of a variable.
+    fn target_at(&self, i: usize) -> u32
         requires { i < length self.now.0.context }
-        ensures { slice_get self.now.0.context i ≡ Some (the_type result.now) }
+        ensures { (a : SimpleType) × ((slice_get self.now.0.context i ≡ Some a) × (result ≡ target a)) }
     {
-        match self.context.get_from_end(i) {
-            Some(ty) => ty,
-            None => unreachable!(),
-        }
+        self.context.target_at(i)
     }
 
     /// The variables whose target type is the hole's.
@@ -100,7 +97,7 @@ impl Cell {
         let base = self.base();
         let mut places = Vec::new(alloc);
         for i in 0..self.len() {
-            let fits = target_of(self.type_of(i)) == base;
+            let fits = self.target_at(i) == base;
             push_where(&mut places, fits, i)?;
         }
         Ok(places)
@@ -171,7 +168,7 @@ impl Cells {
         &mut self,
         alloc: Global,
         contexts: &mut Contexts,
-        context: &Rc<Types>,
+        context: &Rc<Variables>,
         ty: &Ty,
         rest: usize,
     ) -> Result<usize, AllocError>
@@ -196,7 +193,7 @@ impl Cells {
         &mut self,
         alloc: Global,
         contexts: &mut Contexts,
-        context: &Rc<Types>,
+        context: &Rc<Variables>,
         ty: &Ty,
         rest: usize,
     ) -> Result<usize, AllocError>

@@ -15,8 +15,7 @@ use crate::fitting::small;
 use crate::head::{HoleHead, head_of};
 use std::alloc::{AllocError, Global};
 use std::marker::Model;
-use std::rc::Rc;
-use stt_core::{Ty, Types};
+use stt_core::Ty;
 use term_bank::Bank;
 
 /// The holes of each partial term, from left to right. A partial term shares the holes that were there before it grew.
@@ -122,7 +121,7 @@ impl OpenHoles {
     pub fn push_blank(&mut self, alloc: Global, ty: &Ty) -> Result<(), AllocError>
         ensures { OnOk result (self.new ≡ self.old ++ (blank_hole [] (the_type ty.now) ∷ []) ∷ []) }
     {
-        let context = Rc::new(alloc, Types::new(alloc))?;
+        let context = Contexts::none(alloc)?;
         let contexts = &mut self.contexts;
         let list = self.cells.add_blank(alloc, contexts, &context, ty, 0)?;
         let number = small(list)?;

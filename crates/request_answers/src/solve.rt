@@ -15,10 +15,10 @@ use delta_defs::taken;
 use mode_file::Mode;
 use plain_tableau::Stripped;
 use prover_run::{Ended, run};
+use refute_share::SharedRefutation;
 use std::alloc::{AllocError, Global};
 use stt_core::Problem;
 use szs_report::{Answer, Claim, ProofText, TreeReport};
-use tableau_calculus::Refutation;
 
 /// What a refutation of the problem's start shows.
 pub(crate) fn claim_of(problem: &Problem) -> Claim
@@ -31,7 +31,7 @@ pub(crate) fn claim_of(problem: &Problem) -> Claim
 }
 
 /// The refutation that is written, and what is told of a tree.
-fn written(rebuilt: Refutation, tree: Option<Stripped>) -> (Refutation, TreeReport)
+fn written(rebuilt: SharedRefutation, tree: Option<Stripped>) -> (SharedRefutation, TreeReport)
     ensures written { result.0 ≡ reported_refutation rebuilt tree }
     ensures told { result.1 ≡ tree_told tree }
 {
@@ -47,7 +47,7 @@ fn written(rebuilt: Refutation, tree: Option<Stripped>) -> (Refutation, TreeRepo
 pub(crate) fn proof_text(
     alloc: Global,
     problem: &Problem,
-    refutation: Refutation,
+    refutation: SharedRefutation,
 ) -> Result<ProofText, AllocError>
     requires typed { IsTyped problem.now }
     requires named { IsNamed (names_in problem.now) refutation }

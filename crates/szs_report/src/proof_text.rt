@@ -7,18 +7,17 @@ ghost use Rattle.refute_print.specs.Text.{text_lines, as_bytes};
 ghost use Rattle.refute_print.specs.Named.{names_of, named_refutation, IsNamed, ArePlaces};
 
 use outside::{Failed, Sink};
-use refute_print::write_text;
+use refute_share::{SharedRefutation, write_shared_text};
 use std::alloc::{AllocError, Global};
 use std::marker::Model;
 use stt_core::Signature;
-use tableau_calculus::Refutation;
 
 /// The lines between the marks of a refutation, as the refutation and what its names come from. The bytes are made as they are written.
 #[derive(Drop)]
 pub struct ProofText {
     sig: Signature,
     taken: Vec<u32>,
-    refutation: Refutation,
+    refutation: SharedRefutation,
 }
 
 impl Model for ProofText {
@@ -40,7 +39,7 @@ impl ProofText {
         alloc: Global,
         sig: &Signature,
         taken: &[u32],
-        refutation: Refutation,
+        refutation: SharedRefutation,
     ) -> Result<ProofText, AllocError>
         requires places { ArePlaces (names_of sig.now.bases sig.now.consts) taken.now }
         requires named { IsNamed (names_of sig.now.bases sig.now.consts) refutation }
@@ -64,6 +63,6 @@ impl ProofText {
         ensures later { S.faults out.old ≤ S.faults out.new }
         ensures telling { IsTrue (S.tells out.old) → IsTrue (S.tells out.new) }
     {
-        write_text(&self.sig, &self.taken, &self.refutation, out)
+        write_shared_text(&self.sig, &self.taken, &self.refutation, out)
     }
 }

@@ -1,4 +1,5 @@
 pub mod PoolLaws
+mod CutLaws
 pub mod DraftLaws
 pub mod WalkSteps
 pub mod ArenaLaws

@@ -2,9 +2,11 @@
 ghost use Rattle.std.specs.Prelude.{◌<◌, ◌^◌};
 ghost use Rattle.std.specs.List.{AllByRecursion};
 ghost use Rattle.refute_print.specs.Limits.{IsChild};
+ghost use Rattle.refute_share.specs.RuleView.{the_rule_use};
 ghost use Rattle.small_rebuilt.specs.Small.{HasPlaces, HasNumbers};
 
-use tableau_calculus::{Child, Children, Line, RuleUse};
+use refute_share::{SharedLine, SharedRule};
+use tableau_calculus::{Child, Children};
 
 /// A place's number is in range.
 fn place_in_range(_place: usize)
@@ -12,36 +14,36 @@ fn place_in_range(_place: usize)
 {}
 
 /// The numbers of the places that a rule is used at are in range.
-fn rule_in_range(rule: &RuleUse)
-    ensures { HasPlaces rule.now }
+fn rule_in_range(rule: &SharedRule)
+    ensures { HasPlaces (the_rule_use rule.now) }
 {
     match rule {
-        RuleUse::False(i) => place_in_range(*i),
-        RuleUse::Close(i, j) => {
+        SharedRule::False(i) => place_in_range(*i),
+        SharedRule::Close(i, j) => {
             place_in_range(*i);
             place_in_range(*j);
         }
-        RuleUse::Refl(i) => place_in_range(*i),
-        RuleUse::ImpPos(i) => place_in_range(*i),
-        RuleUse::ImpNeg(i) => place_in_range(*i),
-        RuleUse::BoolPos(i) => place_in_range(*i),
-        RuleUse::BoolNeg(i) => place_in_range(*i),
-        RuleUse::FunPos(i) => place_in_range(*i),
-        RuleUse::FunNeg(i) => place_in_range(*i),
-        RuleUse::AllPos(i, _) => place_in_range(*i),
-        RuleUse::AllNeg(i) => place_in_range(*i),
-        RuleUse::Mat(i, j) => {
+        SharedRule::Refl(i) => place_in_range(*i),
+        SharedRule::ImpPos(i) => place_in_range(*i),
+        SharedRule::ImpNeg(i) => place_in_range(*i),
+        SharedRule::BoolPos(i) => place_in_range(*i),
+        SharedRule::BoolNeg(i) => place_in_range(*i),
+        SharedRule::FunPos(i) => place_in_range(*i),
+        SharedRule::FunNeg(i) => place_in_range(*i),
+        SharedRule::AllPos(i, _) => place_in_range(*i),
+        SharedRule::AllNeg(i) => place_in_range(*i),
+        SharedRule::Mat(i, j) => {
             place_in_range(*i);
             place_in_range(*j);
         }
-        RuleUse::Dec(i) => place_in_range(*i),
-        RuleUse::Con(i, j) => {
+        SharedRule::Dec(i) => place_in_range(*i),
+        SharedRule::Con(i, j) => {
             place_in_range(*i);
             place_in_range(*j);
         }
-        RuleUse::Cho(_) => {}
-        RuleUse::Des(_) => {}
-        RuleUse::Cut(_) => {}
+        SharedRule::Cho(_) => {}
+        SharedRule::Des(_) => {}
+        SharedRule::Cut(_) => {}
     }
 }
 
@@ -65,7 +67,7 @@ fn children_in_range(children: &Children)
 }
 
 /// The numbers in a line are in range.
-pub fn line_in_range(line: &Line)
+pub fn line_in_range(line: &SharedLine)
     ensures { HasNumbers line.now }
 {
     rule_in_range(&line.rule);

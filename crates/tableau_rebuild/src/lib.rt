@@ -25,5 +25,5 @@ pub use literals::{lits_of, position};
 pub use needed::{rows_for_branch, rows_for_instance};
 pub use pool::Pool;
 pub use reached::{UsedList, used};
-pub use refutation::rebuild;
+pub use refutation::{rebuild, rebuild_shared};
 pub use rows::write_rows;

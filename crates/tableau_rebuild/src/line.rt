@@ -2,6 +2,7 @@
 ghost use Rattle.std.specs.Prelude.{◌≡◌, ◌<◌, [], ◌∷◌, length, map, Some, IsSome, IfSome, IfOk, OnOk, All, unwrap_or};
 ghost use Rattle.sat_base.specs.Literal.{IsOver};
 ghost use Rattle.tableau_calculus.specs.declared.refutation.RuleUse.{RuleUse};
+ghost use Rattle.refute_share.specs.RuleView.{the_rule_use};
 ghost use Rattle.tableau_calculus.specs.declared.refutation.Child.TheVariants.{Closed, Line as Numbered};
 ghost use Rattle.search_spec.specs.Numbered.{literal_at};
 ghost use Rattle.term_bank.specs.Terms.{term_at};
@@ -15,13 +16,14 @@ ghost use Rattle.tableau_rebuild.specs.Internal.LineParts.{first_in, left_in, ri
 ghost use Rattle.tableau_rebuild.specs.Pools.{IsMadePool};
 
 use crate::draft::Draft;
-use crate::literals::{lit_of, lits_of, position};
+use crate::literals::{lits_of, position};
 use crate::pool::Pool;
 use literal_map::{BankUse, Instance, LitList, LitLists, LitTable, RuleKind};
+use refute_share::{SharedLine, SharedLit, SharedLits, SharedRule, SharedTerm};
 use sat_base::SatLit;
 use std::alloc::{AllocError, Global};
-use stt_core::Nf;
-use tableau_calculus::{Child, Children, Line, Lit, Lits, RuleUse};
+use std::rc::Rc;
+use tableau_calculus::{Child, Children};
 use tableau_clauses::{Origin, StepTable};
 use term_bank::Bank;
 
@@ -47,26 +49,40 @@ fn right_of(places: &[usize]) -> usize
 }
 
 /// The term that a rule takes.
-fn term_of(bank: &Bank, by: &BankUse) -> Result<Nf, AllocError>
+fn term_of(
+    bank: &Bank,
+    atoms: &LitTable,
+    by: &BankUse,
+    pool: &mut Pool,
+) -> Result<Rc<SharedTerm>, AllocError>
     requires some { IsSome by.now.term }
     requires within { IfSome by.now.term (λ u. u < length bank.now.terms) }
-    ensures { IfOk result (λ u. u ≡ term_at bank.now.terms (unwrap_or by.now.term 0)) }
+    requires made { IsMadePool bank.now.terms atoms.now pool.old }
+    ensures made { OnOk result (IsMadePool bank.now.terms atoms.now pool.new) }
+    ensures term { IfOk result (λ u. u.value ≡ term_at bank.now.terms (unwrap_or by.now.term 0)) }
 {
     match by.term {
-        Some(id) => Ok(bank.export(id)?),
+        Some(id) => Ok(pool.term(bank, atoms, id)?),
         None => unreachable!(),
     }
 }
 
 /// The literal that a cut takes.
-fn cut_literal(bank: &Bank, atoms: &LitTable, by: &BankUse) -> Result<Lit, AllocError>
+fn cut_literal(
+    bank: &Bank,
+    atoms: &LitTable,
+    by: &BankUse,
+    pool: &mut Pool,
+) -> Result<SharedLit, AllocError>
     requires atoms { All (IsAtom bank.now) atoms.now }
     requires some { IsSome by.now.first }
     requires within { IfSome by.now.first (λ l. l.var.0 < length atoms.now) }
-    ensures { IfOk result (λ l. l ≡ literal_at (atoms_at bank.now.terms atoms.now) (unwrap_or by.now.first no_literal)) }
+    requires made { IsMadePool bank.now.terms atoms.now pool.old }
+    ensures made { OnOk result (IsMadePool bank.now.terms atoms.now pool.new) }
+    ensures literal { IfOk result (λ l. l ≡ literal_at (atoms_at bank.now.terms atoms.now) (unwrap_or by.now.first no_literal)) }
 {
     match by.first {
-        Some(literal) => Ok(lit_of(bank, atoms, literal)?),
+        Some(literal) => Ok(pool.lit(bank, atoms, literal)?),
         None => unreachable!(),
     }
 }
@@ -77,43 +93,46 @@ pub fn rule_of(
     atoms: &LitTable,
     by: &BankUse,
     places: &[usize],
-) -> Result<RuleUse, AllocError>
+    pool: &mut Pool,
+) -> Result<SharedRule, AllocError>
     requires atoms { All (IsAtom bank.now) atoms.now }
     requires good { IsGoodUse bank.now atoms.now by.now }
-    ensures { IfOk result (λ rule. (use' : RuleUse) → use_of bank.now.terms atoms.now by.now ≡ Some use' → rule ≡ rule_at_places use' places.now) }
+    requires made { IsMadePool bank.now.terms atoms.now pool.old }
+    ensures made { OnOk result (IsMadePool bank.now.terms atoms.now pool.new) }
+    ensures rule { IfOk result (λ rule. (use' : RuleUse) → use_of bank.now.terms atoms.now by.now ≡ Some use' → the_rule_use rule ≡ rule_at_places use' places.now) }
 {
     let first = first_of(places);
     let left = left_of(places);
     let right = right_of(places);
     match by.kind {
-        RuleKind::False => Ok(RuleUse::False(first)),
-        RuleKind::Close => Ok(RuleUse::Close(left, right)),
-        RuleKind::Refl => Ok(RuleUse::Refl(first)),
-        RuleKind::ImpPos => Ok(RuleUse::ImpPos(first)),
-        RuleKind::ImpNeg => Ok(RuleUse::ImpNeg(first)),
-        RuleKind::BoolPos => Ok(RuleUse::BoolPos(first)),
-        RuleKind::BoolNeg => Ok(RuleUse::BoolNeg(first)),
-        RuleKind::FunPos => Ok(RuleUse::FunPos(first)),
-        RuleKind::FunNeg => Ok(RuleUse::FunNeg(first)),
+        RuleKind::False => Ok(SharedRule::False(first)),
+        RuleKind::Close => Ok(SharedRule::Close(left, right)),
+        RuleKind::Refl => Ok(SharedRule::Refl(first)),
+        RuleKind::ImpPos => Ok(SharedRule::ImpPos(first)),
+        RuleKind::ImpNeg => Ok(SharedRule::ImpNeg(first)),
+        RuleKind::BoolPos => Ok(SharedRule::BoolPos(first)),
+        RuleKind::BoolNeg => Ok(SharedRule::BoolNeg(first)),
+        RuleKind::FunPos => Ok(SharedRule::FunPos(first)),
+        RuleKind::FunNeg => Ok(SharedRule::FunNeg(first)),
         RuleKind::AllPos => {
-            let term = term_of(bank, by)?;
-            Ok(RuleUse::AllPos(first, term))
+            let term = term_of(bank, atoms, by, pool)?;
+            Ok(SharedRule::AllPos(first, term))
         }
-        RuleKind::AllNeg => Ok(RuleUse::AllNeg(first)),
-        RuleKind::Mat => Ok(RuleUse::Mat(left, right)),
-        RuleKind::Dec => Ok(RuleUse::Dec(first)),
-        RuleKind::Con => Ok(RuleUse::Con(left, right)),
+        RuleKind::AllNeg => Ok(SharedRule::AllNeg(first)),
+        RuleKind::Mat => Ok(SharedRule::Mat(left, right)),
+        RuleKind::Dec => Ok(SharedRule::Dec(first)),
+        RuleKind::Con => Ok(SharedRule::Con(left, right)),
         RuleKind::Cho => {
-            let term = term_of(bank, by)?;
-            Ok(RuleUse::Cho(term))
+            let term = term_of(bank, atoms, by, pool)?;
+            Ok(SharedRule::Cho(term))
         }
         RuleKind::Des => {
-            let term = term_of(bank, by)?;
-            Ok(RuleUse::Des(term))
+            let term = term_of(bank, atoms, by, pool)?;
+            Ok(SharedRule::Des(term))
         }
         RuleKind::Cut => {
-            let literal = cut_literal(bank, atoms, by)?;
-            Ok(RuleUse::Cut(literal))
+            let literal = cut_literal(bank, atoms, by, pool)?;
+            Ok(SharedRule::Cut(literal))
         }
     }
 }
@@ -161,17 +180,20 @@ fn instance_line(
     atoms: &LitTable,
     instance: &Instance,
     branch: &[SatLit],
-    literals: Lits,
-) -> Result<Line, AllocError>
+    literals: SharedLits,
+    pool: &mut Pool,
+) -> Result<SharedLine, AllocError>
     requires atoms { All (IsAtom bank.now) atoms.now }
     requires good { IsGoodUse bank.now atoms.now instance.now.by }
     requires literals { literals ≡ literals_of (atoms_at bank.now.terms atoms.now) branch.now }
-    ensures { IfOk result (λ line. line ≡ instance_by (atoms_at bank.now.terms atoms.now) branch.now (the_instance bank.now.terms atoms.now instance.now)) }
+    requires made { IsMadePool bank.now.terms atoms.now pool.old }
+    ensures made { OnOk result (IsMadePool bank.now.terms atoms.now pool.new) }
+    ensures line { IfOk result (λ line. line ≡ instance_by (atoms_at bank.now.terms atoms.now) branch.now (the_instance bank.now.terms atoms.now instance.now)) }
 {
     let places = places_of(alloc, branch, &instance.principals)?;
-    let rule = rule_of(bank, atoms, &instance.by, &places)?;
+    let rule = rule_of(bank, atoms, &instance.by, &places, pool)?;
     let children = all_closed(alloc, &instance.alternatives)?;
-    Ok(Line {
+    Ok(SharedLine {
         branch: literals,
         rule,
         children,
@@ -188,12 +210,12 @@ pub(crate) fn line_of(
     branch: &[SatLit],
     numbers: &[usize],
     pool: &mut Pool,
-) -> Result<Line, AllocError>
+) -> Result<SharedLine, AllocError>
     requires atoms { All (IsAtom bank.now) atoms.now }
     requires numbered { IsOver (length atoms.now) branch.now }
     requires makeable { IsMakeable bank.now atoms.now steps.now numbers.now draft }
-    requires made { IsMadePool (atoms_at bank.now.terms atoms.now) pool.old }
-    ensures made { OnOk result (IsMadePool (atoms_at bank.now.terms atoms.now) pool.new) }
+    requires made { IsMadePool bank.now.terms atoms.now pool.old }
+    ensures made { OnOk result (IsMadePool bank.now.terms atoms.now pool.new) }
     ensures line { IfOk result (λ line. IsLineBy bank.now atoms.now steps.now numbers.now branch.now draft line) }
 {
     let literals = lits_of(alloc, bank, atoms, branch, pool)?;
@@ -206,12 +228,13 @@ pub(crate) fn line_of(
                 steps.instance(k),
                 branch,
                 literals,
+                pool,
             )?),
             Origin::Start => unreachable!(),
         },
-        Draft::Close(_, _, _) => Ok(Line {
+        Draft::Close(_, _, _) => Ok(SharedLine {
             branch: literals,
-            rule: RuleUse::Close(0, 1),
+            rule: SharedRule::Close(0, 1),
             children: Children::new(alloc),
         }),
         Draft::Cut(_, var, on, off) => {
@@ -219,9 +242,9 @@ pub(crate) fn line_of(
                 var,
                 positive: true,
             };
-            let rule = RuleUse::Cut(lit_of(bank, atoms, positive)?);
+            let rule = SharedRule::Cut(pool.lit(bank, atoms, positive)?);
             let children = two_lines(alloc, numbers[on], numbers[off])?;
-            Ok(Line {
+            Ok(SharedLine {
                 branch: literals,
                 rule,
                 children,

@@ -25,8 +25,8 @@ use crate::needed::rows_for_line;
 use crate::packed_branch::PackedBranch;
 use crate::pool::Pool;
 use literal_map::LitTable;
+use refute_share::SharedLines;
 use std::alloc::{AllocError, Global};
-use tableau_calculus::Lines;
 use tableau_clauses::StepTable;
 use term_bank::Bank;
 use witness_names::Witnesses;
@@ -34,7 +34,7 @@ use witness_names::Witnesses;
 /// Lines, and how many rows of the witness table they need.
 #[derive(Drop)]
 pub(crate) struct Written {
-    pub(crate) lines: Lines,
+    pub(crate) lines: SharedLines,
     pub(crate) rows: usize,
 }
 
@@ -54,11 +54,11 @@ impl Writing {
         ensures rows { result.written.rows ≡ 0 }
         ensures branches { result.branches.items ≡ [] }
         ensures empty { result.resolver.resolver ≡ [] }
-        ensures made { (terms : List Lambda) → IsMadePool terms result.pool }
+        ensures made { (terms : List Lambda) (atoms : List ℕ) → IsMadePool terms atoms result.pool }
     {
         Writing {
             written: Written {
-                lines: Lines::new(alloc),
+                lines: SharedLines::new(alloc),
                 rows: 0,
             },
             branches: Vec::new(alloc),
@@ -84,7 +84,7 @@ impl Writing {
         requires none { self.old.written.rows ≡ 0 }
         requires branches { self.old.branches.items ≡ [] }
         requires empty { self.old.resolver.resolver ≡ [] }
-        requires made { IsMadePool (atoms_at bank.now.terms atoms.now) self.old.pool }
+        requires made { IsMadePool bank.now.terms atoms.now self.old.pool }
         requires atoms { All (IsAtom bank.now) atoms.now }
         requires rows { AreRows bank.now witnesses.now }
         requires right { AreDrafts drafts.now }

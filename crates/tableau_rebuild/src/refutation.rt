@@ -29,6 +29,7 @@ use crate::rows::write_rows;
 use crate::walk::walk_from;
 use literal_map::LitTable;
 use rebuild_spec::{rebuilt_is_accepted, rebuilt_is_trimmed};
+use refute_share::SharedRefutation;
 use sat_log::Log;
 use std::alloc::{AllocError, Global};
 use tableau_calculus::Refutation;
@@ -45,7 +46,7 @@ fn refutation_of(
     witnesses: &Witnesses,
     drafts: &[Draft],
     last: usize,
-) -> Result<Refutation, AllocError>
+) -> Result<SharedRefutation, AllocError>
     requires rows { AreRows bank.now witnesses.now }
     requires atoms { All (IsAtom bank.now) atoms.now }
     requires right { AreDrafts drafts.now }
@@ -61,7 +62,7 @@ fn refutation_of(
         alloc, bank, atoms, steps, witnesses, drafts, last, &order, &numbers,
     )?;
     let rows = write_rows(alloc, bank, witnesses, written.rows)?;
-    Ok(Refutation {
+    Ok(SharedRefutation {
         witnesses: rows,
         lines: written.lines,
     })
@@ -75,7 +76,7 @@ fn refutation_from(
     steps: &StepTable,
     log: &Log,
     witnesses: &Witnesses,
-) -> Result<Refutation, AllocError>
+) -> Result<SharedRefutation, AllocError>
     requires rows { AreRows bank.now witnesses.now }
     requires atoms { All (IsAtom bank.now) lits.now }
     requires units { AreUnitsNumbered lits.now steps.now }
@@ -101,7 +102,36 @@ fn refutation_from(
     }
 }
 
-/// The refutation that a log gives, whose last result is the empty clause.
+/// The refutation that a log gives, whose last result is the empty clause. Its terms are shared, as they are in the bank.
+pub fn rebuild_shared(
+    alloc: Global,
+    bank: &Bank,
+    lits: &LitTable,
+    steps: &StepTable,
+    log: &Log,
+    witnesses: &Witnesses,
+) -> Result<SharedRefutation, AllocError>
+    requires rows { AreRows bank.now witnesses.now }
+    requires atoms { All (IsAtom bank.now) lits.now }
+    requires units { AreUnitsNumbered lits.now steps.now }
+    requires instances { All (IsInstanceOver bank.now lits.now (rows_of bank.now.terms witnesses.now)) (the_instances steps.now) }
+    requires log { IsLogOver (the_clauses steps.now) log.now }
+    requires closed { EndsEmpty log.now }
+    ensures rebuilt { IfOk result (λ refutation. IsRebuilt (the_input bank.now lits.now steps.now log.now witnesses.now) refutation) }
+    ensures accepted { IfOk result (λ refutation. IsAccepted (content_scope bank.now) (unit_literals (atoms_at bank.now.terms lits.now) steps.now.0) refutation) }
+    ensures closed { IfOk result (λ refutation. Closes (with_rows (content_scope bank.now) refutation.witnesses) refutation.witnesses (tableau_of refutation) (unit_literals (atoms_at bank.now.terms lits.now) steps.now.0)) }
+    ensures reached { IfOk result (λ refutation. IsEachReached refutation.lines) }
+    ensures from_search { IfOk result (λ refutation. (l : Line) → Contains refutation.lines l → IsFromSearch (unit_literals (atoms_at bank.now.terms lits.now) steps.now.0) (the_input bank.now lits.now steps.now log.now witnesses.now) l) }
+    ensures few { IfOk result (λ refutation. AreFew log.now refutation.lines) }
+    ensures in_range { IfOk result AreNumbersInRange }
+{
+    tables_are_given(bank, lits, steps, log, witnesses);
+    rebuilt_is_accepted();
+    rebuilt_is_trimmed();
+    Ok(refutation_from(alloc, bank, lits, steps, log, witnesses)?)
+}
+
+/// The same refutation, of trees in which nothing is shared: it takes memory by the bytes of its text.
 pub fn rebuild(
     alloc: Global,
     bank: &Bank,
@@ -124,8 +154,6 @@ pub fn rebuild(
     ensures few { IfOk result (λ refutation. AreFew log.now refutation.lines) }
     ensures in_range { IfOk result AreNumbersInRange }
 {
-    tables_are_given(bank, lits, steps, log, witnesses);
-    rebuilt_is_accepted();
-    rebuilt_is_trimmed();
-    Ok(refutation_from(alloc, bank, lits, steps, log, witnesses)?)
+    let shared = rebuild_shared(alloc, bank, lits, steps, log, witnesses)?;
+    Ok(shared.to_plain(alloc)?)
 }

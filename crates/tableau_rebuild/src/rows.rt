@@ -1,12 +1,13 @@
 //! The rows of a refutation.
-ghost use Rattle.std.specs.Prelude.{◌≡◌, ◌<◌, ◌≤◌, ◌^◌, length, take, IfOk, All};
+ghost use Rattle.std.specs.Prelude.{◌≡◌, ◌<◌, ◌≤◌, ◌^◌, length, take, IfOk, OnOk, All};
 ghost use Rattle.stt_core.specs.View.{the_type};
 ghost use Rattle.term_bank.specs.Terms.{term_at};
+ghost use Rattle.refute_share.specs.KnownTerms.{KnowsTerms};
 ghost use Rattle.witness_names.specs.Rows.{binder_of, row_of, rows_of};
 
+use refute_share::{SharedRow, SharedRows, TermPool};
 use std::alloc::{AllocError, Global};
 use stt_core::Ty;
-use tableau_calculus::{Rows, WitnessRow};
 use term_bank::{Bank, Id, Node};
 use witness_names::Witnesses;
 
@@ -22,13 +23,15 @@ fn binder(alloc: Global, bank: &Bank, id: Id) -> Result<Ty, AllocError>
 }
 
 /// The row of a predicate.
-fn row(alloc: Global, bank: &Bank, id: Id) -> Result<WitnessRow, AllocError>
-    requires { id < length bank.now.terms }
-    ensures { IfOk result (λ row. row ≡ row_of (term_at bank.now.terms id)) }
+fn row(alloc: Global, bank: &Bank, id: Id, terms: &mut TermPool) -> Result<SharedRow, AllocError>
+    requires within { id < length bank.now.terms }
+    requires known { KnowsTerms bank.now.terms terms.old }
+    ensures known { OnOk result (KnowsTerms bank.now.terms terms.new) }
+    ensures row { IfOk result (λ row. row ≡ row_of (term_at bank.now.terms id)) }
 {
     let ty = binder(alloc, bank, id)?;
-    let predicate = bank.export(id)?;
-    Ok(WitnessRow { ty, predicate })
+    let predicate = terms.share(bank, id)?;
+    Ok(SharedRow { ty, predicate })
 }
 
 /// So many rows of a witness table, from its first one on, or all where there are fewer.
@@ -37,14 +40,15 @@ pub fn write_rows(
     bank: &Bank,
     witnesses: &Witnesses,
     count: usize,
-) -> Result<Rows, AllocError>
+) -> Result<SharedRows, AllocError>
     requires { All (λ id. id < length bank.now.terms) witnesses.now }
     ensures rows { IfOk result (λ rows. rows ≡ take count (rows_of bank.now.terms witnesses.now)) }
     ensures few { IfOk result (λ rows. length rows ≤ 2 ^ 32) }
 {
-    let mut rows = Rows::new(alloc);
+    let mut terms = TermPool::new(alloc);
+    let mut rows = SharedRows::new(alloc);
     for w in 0..count.min(witnesses.len() as usize) {
-        let row = row(alloc, bank, witnesses.predicate(w as u32))?;
+        let row = row(alloc, bank, witnesses.predicate(w as u32), &mut terms)?;
         rows.push(row)?;
     }
     Ok(rows)

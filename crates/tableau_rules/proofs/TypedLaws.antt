@@ -2,21 +2,25 @@
 use Rattle.std.proofs.Common.{◌≡◌, ◌<◌, ℕ, true, List, [], ◌∷◌, Some, length, refl, sym, ap, ap₂, subst, ◌∙◌, subst₂, zero, suc, get_or, arith}
 use Rattle.std.specs.Prelude.{All}
 use Rattle.stt_core.specs.SimpleType.{SimpleType, formula, arrow, predicate, is_declared}
-use Rattle.stt_core.specs.Lambda.{Lambda, bound, lam, eq, every}
+use Rattle.stt_core.specs.Lambda.{Lambda, bound, lam, eq, every, applied}
 use Rattle.stt_core.specs.Canonical.{IsCanonical}
 use Rattle.stt_core.specs.Lift.{lift}
-use Rattle.normal_forms.specs.Normal.{eta, apply}
+use Rattle.normal_forms.specs.Normal.{eta}
+use Rattle.normal_forms.specs.Internal.Applying.{body_under}
 use Rattle.normal_forms.proofs.NormalValues.{canonical-eta}
 use Rattle.tableau_calculus.specs.Rules.{at_new, agreement}
 use Rattle.tableau_calculus.proofs.EquationLaws.{canonical-eq}
 use Rattle.term_bank.specs.Content.{Content, content_scope, HasTerm, Grows}
 use Rattle.term_bank.specs.Terms.{term_at, IsTypedTerm}
-use Rattle.bank_normal.specs.Fits.{IsNeutralOf, AppliesIn}
+use Rattle.bank_normal.specs.Fits.{AppliesIn}
+use Rattle.bank_normal.proofs.ReplaceLaws.{no_function_spine}
+use Rattle.conv_laws.specs.Laws.{FunctionsAreLambdas}
+use Rattle.stt_core.proofs.SpineLaws.{IsAtom}
 use Rattle.std.proofs.lemmas.Bool.{and_parts}
 use Rattle.bank_normal.proofs.LiftLaws.{lift_by_none}
 use Rattle.normal_forms.proofs.CanonicalLaws.{canonical-lift}
 use Rattle.tableau_calculus.proofs.FunctionLaws.{canonical-every, canonical-at_new}
-use Rattle.term_bank.proofs.GrowLaws.{grown_scope, grown_at, grown_within, grown_term, has_at, has_within}
+use Rattle.term_bank.proofs.GrowLaws.{grown_scope, grown_at, grown_within, grown_term, has_at, has_within, at_has}
 use Rattle.tableau_rules.proofs.ClosedLaws.{missing_none}
 use Rattle.tableau_rules.specs.Internal.Typed.{AreSides, IsFunction, IsOpenFormula}
 
@@ -25,18 +29,12 @@ equation_typed b a c s t e h =
     subst (λ x. IsTypedTerm (content_scope b) (eq x (term_at b.terms s) (term_at b.terms t))) (sym e)
     (record { ctx = []; type = formula; canonical = canonical-eq (content_scope b) a (term_at b.terms s) (term_at b.terms t) [] (record { declared = h.declared; left = h.left; right = h.right }) })
 
-pub variable_neutral : (b : Content) (a : SimpleType) (f : ℕ) → IsFunction b a f → IsNeutralOf (content_scope b) a (bound 0)
-variable_neutral b a f h = record { ctx = a ∷ []; declared = h.declared; neutral = refl }
-
 module _ (b c : Content) (g : Grows b c) where
   pub canonical_grown : (ctx : List SimpleType) (a : SimpleType) (i : ℕ) → i < length b.terms → IsCanonical (content_scope b) ctx a (term_at b.terms i) → IsCanonical (content_scope c) ctx a (term_at c.terms i)
   canonical_grown ctx a i w h = subst₂ (λ s t. IsCanonical s ctx a t) (sym (grown_scope b c g)) (sym (grown_at b c i g w)) h
 
   pub declared_grown : (a : SimpleType) → is_declared (content_scope b).bases a ≡ true → is_declared (content_scope c).bases a ≡ true
   declared_grown a h = subst (λ s. is_declared s.bases a ≡ true) (sym (grown_scope b c g)) h
-
-  pub function_grown : (a : SimpleType) (f : ℕ) → IsFunction b a f → IsFunction c a f
-  function_grown a f h = record { within = grown_within b c f g h.within; declared = declared_grown a h.declared; result = h.result; function_in = canonical_grown [] (arrow a h.result) f h.within h.function_in }
 
   pub sides_grown : (a : SimpleType) (s t : ℕ) → AreSides b a s t → AreSides c a s t
   sides_grown a s t h = record { left_within = grown_within b c s g h.left_within; right_within = grown_within b c t g h.right_within; declared = declared_grown a h.declared; left = canonical_grown [] a s h.left_within h.left; right = canonical_grown [] a t h.right_within h.right }
@@ -46,17 +44,21 @@ module _ (b c : Content) (g : Grows b c) where
 unlifted : (b : Content) (a : SimpleType) (f : ℕ) → IsFunction b a f → lift 0 (term_at b.terms f) ≡ term_at b.terms f
 unlifted b a f h = lift_by_none 1 0 (term_at b.terms f) (missing_none (content_scope b) (arrow a h.result) (term_at b.terms f) h.function_in)
 
-module _ (b c : Content) (a : SimpleType) (f v : ℕ) (h : IsFunction b a f) (g : Grows b c) (variable : HasTerm c v (eta a (bound 0))) where
-  pub new_applies : AppliesIn (content_scope c) (term_at c.terms f) (term_at c.terms v)
+module _ (b : Content) (a : SimpleType) (f : ℕ) (h : IsFunction b a f) where
+  new_applies : AppliesIn (content_scope b) (term_at b.terms f) (eta a (bound 0))
   new_applies =
-      let inner : IsCanonical (content_scope c) [] (arrow a h.result) (term_at c.terms f) = canonical_grown b c g [] (arrow a h.result) f h.within h.function_in in
-      let lifted : IsCanonical (content_scope c) (a ∷ []) (arrow a h.result) (term_at c.terms f) =
-      subst (IsCanonical (content_scope c) (a ∷ []) (arrow a h.result)) (unlifted c a f (function_grown b c g a f h)) (canonical-lift (content_scope c) [] a [] (arrow a h.result) (term_at c.terms f) inner) in
-      subst (AppliesIn (content_scope c) (term_at c.terms f)) (sym (has_at c v (eta a (bound 0)) variable))
-      (record { ctx = a ∷ []; applies = record { argument = a; result = h.result; function_in = lifted; argument_in = canonical-eta (content_scope c) (a ∷ []) a (bound 0) (declared_grown b c g a h.declared) refl } })
+      let lifted : IsCanonical (content_scope b) (a ∷ []) (arrow a h.result) (term_at b.terms f) =
+      subst (IsCanonical (content_scope b) (a ∷ []) (arrow a h.result)) (unlifted b a f h) (canonical-lift (content_scope b) [] a [] (arrow a h.result) (term_at b.terms f) h.function_in) in
+      record { ctx = a ∷ []; applies = record { argument = a; result = h.result; function_in = lifted; argument_in = canonical-eta (content_scope b) (a ∷ []) a (bound 0) h.declared refl } }
 
-  pub new_made : (d : Content) (id : ℕ) → HasTerm d id (apply (term_at c.terms f) (term_at c.terms v)) → HasTerm d id (at_new a (term_at b.terms f))
-  new_made d id m = m ∙ ap Some (ap₂ apply (grown_at b c f g h.within ∙ sym (unlifted b a f h)) (has_at c v (eta a (bound 0)) variable))
+  -- a function is no head with arguments
+  pub function_no_spine : (t : Lambda) (us : List Lambda) → IsAtom t → term_at b.terms f ≡ applied t us → ⊥
+  function_no_spine t us o e = no_function_spine (content_scope b) t us (term_at b.terms f) (eta a (bound 0)) o e new_applies
+
+  -- what stands under its binder
+  pub new_made : FunctionsAreLambdas → (c : SimpleType) (i : ℕ) → i < length b.terms → term_at b.terms f ≡ lam c (term_at b.terms i) → HasTerm b i (at_new a (term_at b.terms f))
+  new_made law c i w e =
+      at_has b i w ∙ ap Some (sym (ap (body_under 1) (law (content_scope b) [] a h.result (term_at b.terms f) h.function_in ∙ e)))
 
 -- WHAT HOLDS EVERYWHERE
 

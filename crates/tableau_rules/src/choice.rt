@@ -80,7 +80,7 @@ pub(crate) fn cho_drafts(
     match predicate_type(alloc, &*bank, f)? {
         Some(ty) => {
             let operator = Head::Choice(ty.try_clone(alloc)?);
-            let none = nowhere_of(alloc, bank, normal, &ty, f)?;
+            let none = nowhere_of(alloc, bank, &ty, f)?;
             let value = holds_of_picked(bank, normal, &operator, &ty, f)?;
             Ok(Some(either(alloc, holds(none), holds(value))?))
         }
@@ -139,7 +139,7 @@ fn both_same(
     ensures right { IsRightNormaliser normal.new bank.new }
 {
     let outer = at_outer_variable(bank, normal, ty, f)?;
-    let inner = at_new_variable(bank, normal, ty, f)?;
+    let inner = at_new_variable(&*bank, f);
     let same = same_variables(alloc, bank, normal, ty)?;
     let then = bank.intern_app(&Head::Imp, &[inner, same])?;
     Ok(bank.intern_app(&Head::Imp, &[outer, then])?)
@@ -179,7 +179,7 @@ pub(crate) fn des_drafts(
     match predicate_type(alloc, &*bank, f)? {
         Some(ty) => {
             let operator = Head::Desc(ty.try_clone(alloc)?);
-            let none = nowhere_of(alloc, bank, normal, &ty, f)?;
+            let none = nowhere_of(alloc, bank, &ty, f)?;
             let once = at_most_once_of(alloc, bank, normal, &ty, f)?;
             let value = holds_of_picked(bank, normal, &operator, &ty, f)?;
             Ok(Some(any_of_three(alloc, holds(none), fails(once), holds(value))?))

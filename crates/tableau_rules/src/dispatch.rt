@@ -32,7 +32,6 @@ use witness_names::Witnesses;
 fn by_one(
     alloc: Global,
     bank: &mut Bank,
-    normal: &mut Normaliser,
     lits: &LitTable,
     kind: RuleKind,
     lit: SatLit,
@@ -40,10 +39,8 @@ fn by_one(
     requires kind { kind ≡ AllNeg → ⊥ }
     requires number { lit.var.0 < length lits.now }
     requires atoms { All (IsAtom bank.old) lits.now }
-    requires right { IsRightNormaliser normal.old bank.old }
     ensures drafted { IfOk result (λ o. (rows : List Row) → DraftedBy bank.new lits.now rows (record { kind = kind; first = Some lit; second = None; term = None }) o) }
     ensures grows { Grows bank.old bank.new }
-    ensures right { IsRightNormaliser normal.new bank.new }
 {
     let p = principal_of(&*bank, lits, lit);
     match kind {
@@ -53,8 +50,8 @@ fn by_one(
         RuleKind::ImpNeg => Ok(imp_neg_drafts(alloc, &*bank, p)?),
         RuleKind::BoolPos => Ok(bool_pos_drafts(alloc, &*bank, p)?),
         RuleKind::BoolNeg => Ok(bool_neg_drafts(alloc, &*bank, p)?),
-        RuleKind::FunPos => Ok(fun_pos_drafts(alloc, bank, normal, p)?),
-        RuleKind::FunNeg => Ok(fun_neg_drafts(alloc, bank, normal, p)?),
+        RuleKind::FunPos => Ok(fun_pos_drafts(alloc, bank, p)?),
+        RuleKind::FunNeg => Ok(fun_neg_drafts(alloc, bank, p)?),
         RuleKind::Dec => Ok(dec_drafts(alloc, bank, p)?),
         RuleKind::Cut => Ok(Some(cut_drafts(alloc, &*bank, p)?)),
         RuleKind::AllNeg => unreachable!(),
@@ -158,7 +155,7 @@ fn unwitnessed_drafts(
             },
             None => match by.term {
                 Some(term) => Ok(by_one_and_term(alloc, bank, normal, lits, by.kind, first, term)?),
-                None => Ok(by_one(alloc, bank, normal, lits, by.kind, first)?),
+                None => Ok(by_one(alloc, bank, lits, by.kind, first)?),
             },
         },
         None => match by.second {

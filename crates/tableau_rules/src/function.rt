@@ -7,34 +7,28 @@ ghost use Rattle.tableau_calculus.specs.Witnesses.{Row};
 ghost use Rattle.tableau_calculus.specs.declared.refutation.RuleUse.TheVariants.{FunPos, FunNeg};
 ghost use Rattle.term_bank.specs.Content.{Grows, HasTerm};
 ghost use Rattle.term_bank.specs.Terms.{term_at};
-ghost use Rattle.bank_normal.specs.Right.{IsRightNormaliser};
 ghost use Rattle.tableau_rules.specs.Internal.Drafted.{IsPrincipal, Drafted};
 ghost use Rattle.tableau_rules.specs.Internal.Typed.{AreSides, IsFunction, IsOpenFormula, IsPredicate};
 ghost use Rattle.tableau_rules.specs.Internal.Functions.{AreFunctionsOf};
-ghost use Rattle.stt_core.specs.SimpleType.{arrow};
+ghost use Rattle.stt_core.specs.SimpleType.{SimpleType, arrow};
 
 use crate::draft::{Drafts, Principal, fails, holds, one};
 use crate::part::equation_of;
-use bank_normal::Normaliser;
+use conv_laws::functions_are_lambdas;
 use std::alloc::{AllocError, Global};
 use stt_core::{Head, Ty};
-use term_bank::{Bank, Id};
+use term_bank::{Bank, Id, Node};
 
-/// What a closed function gives at a new variable of its argument type.
-pub(crate) fn at_new_variable(
-    bank: &mut Bank,
-    normal: &mut Normaliser,
-    ty: &Ty,
-    f: Id,
-) -> Result<Id, AllocError>
-    requires function { IsFunction bank.old (the_type ty.now) f }
-    requires right { IsRightNormaliser normal.old bank.old }
-    ensures term { IfOk result (λ id. HasTerm bank.new id (at_new (the_type ty.now) (term_at bank.old.terms f))) }
-    ensures grows { Grows bank.old bank.new }
-    ensures right { IsRightNormaliser normal.new bank.new }
+/// What a closed function gives at a new variable of its argument type: what stands under its binder, whose variable is the new one.
+pub(crate) fn at_new_variable(bank: &Bank, f: Id) -> Id
+    requires { (a : SimpleType) × IsFunction bank.now a f }
+    ensures { (a : SimpleType) → IsFunction bank.now a f → HasTerm bank.now result (at_new a (term_at bank.now.terms f)) }
 {
-    let variable = normal.eta(bank, &Head::Bound(0), ty)?;
-    Ok(normal.instantiate(bank, f, variable)?)
+    functions_are_lambdas();
+    match bank.node(f) {
+        Node::Lam { ty: _, body } => *body,
+        Node::App { head: _, args: _ } => unreachable!(),
+    }
 }
 
 /// The formula that what stands under a binder of this type holds everywhere.
@@ -63,40 +57,25 @@ struct Functions {
 }
 
 /// The formula that two functions agree everywhere.
-fn agreement_of(
-    alloc: Global,
-    bank: &mut Bank,
-    normal: &mut Normaliser,
-    f: &Functions,
-) -> Result<Id, AllocError>
-    requires functions { AreSides bank.old (arrow (the_type f.now.argument) (the_type f.now.outcome)) f.now.left f.now.right }
-    requires right { IsRightNormaliser normal.old bank.old }
+fn agreement_of(alloc: Global, bank: &mut Bank, f: &Functions) -> Result<Id, AllocError>
+    requires { AreSides bank.old (arrow (the_type f.now.argument) (the_type f.now.outcome)) f.now.left f.now.right }
     ensures term { IfOk result (λ id. HasTerm bank.new id (agreement (the_type f.now.argument) (the_type f.now.outcome) (term_at bank.old.terms f.now.left) (term_at bank.old.terms f.now.right))) }
     ensures grows { Grows bank.old bank.new }
-    ensures right { IsRightNormaliser normal.new bank.new }
 {
-    let left = at_new_variable(bank, normal, &f.argument, f.left)?;
-    let right = at_new_variable(bank, normal, &f.argument, f.right)?;
+    let left = at_new_variable(&*bank, f.left);
+    let right = at_new_variable(&*bank, f.right);
     let head = Head::Eq(f.outcome.try_clone(alloc)?);
     let equation = bank.intern_app(&head, &[left, right])?;
     Ok(everywhere(alloc, bank, &f.argument, equation)?)
 }
 
 /// The formula that a predicate holds nowhere.
-pub(crate) fn nowhere_of(
-    alloc: Global,
-    bank: &mut Bank,
-    normal: &mut Normaliser,
-    ty: &Ty,
-    f: Id,
-) -> Result<Id, AllocError>
-    requires predicate { IsPredicate bank.old (the_type ty.now) f }
-    requires right { IsRightNormaliser normal.old bank.old }
+pub(crate) fn nowhere_of(alloc: Global, bank: &mut Bank, ty: &Ty, f: Id) -> Result<Id, AllocError>
+    requires { IsPredicate bank.old (the_type ty.now) f }
     ensures term { IfOk result (λ id. HasTerm bank.new id (nowhere (the_type ty.now) (term_at bank.old.terms f))) }
     ensures grows { Grows bank.old bank.new }
-    ensures right { IsRightNormaliser normal.new bank.new }
 {
-    let value = at_new_variable(bank, normal, ty, f)?;
+    let value = at_new_variable(&*bank, f);
     let denied = bank.intern_app(&Head::Not, &[value])?;
     Ok(everywhere(alloc, bank, ty, denied)?)
 }
@@ -123,21 +102,18 @@ fn functions_of(alloc: Global, bank: &Bank, id: Id) -> Result<Option<Functions>,
 pub(crate) fn fun_pos_drafts(
     alloc: Global,
     bank: &mut Bank,
-    normal: &mut Normaliser,
     p: Principal,
 ) -> Result<Option<Drafts>, AllocError>
-    requires principal { IsPrincipal bank.old p }
-    requires right { IsRightNormaliser normal.old bank.old }
+    requires { IsPrincipal bank.old p }
     ensures drafted { IfOk result (λ o. (rows : List Row) → Drafted bank.new rows (p ∷ []) (FunPos 0) o) }
     ensures grows { Grows bank.old bank.new }
-    ensures right { IsRightNormaliser normal.new bank.new }
 {
     if !p.positive {
         return Ok(None);
     }
     match functions_of(alloc, &*bank, p.atom)? {
         Some(functions) => {
-            let agree = agreement_of(alloc, bank, normal, &functions)?;
+            let agree = agreement_of(alloc, bank, &functions)?;
             Ok(Some(one(alloc, holds(agree))?))
         }
         None => Ok(None),
@@ -147,21 +123,18 @@ pub(crate) fn fun_pos_drafts(
 pub(crate) fn fun_neg_drafts(
     alloc: Global,
     bank: &mut Bank,
-    normal: &mut Normaliser,
     p: Principal,
 ) -> Result<Option<Drafts>, AllocError>
-    requires principal { IsPrincipal bank.old p }
-    requires right { IsRightNormaliser normal.old bank.old }
+    requires { IsPrincipal bank.old p }
     ensures drafted { IfOk result (λ o. (rows : List Row) → Drafted bank.new rows (p ∷ []) (FunNeg 0) o) }
     ensures grows { Grows bank.old bank.new }
-    ensures right { IsRightNormaliser normal.new bank.new }
 {
     if p.positive {
         return Ok(None);
     }
     match functions_of(alloc, &*bank, p.atom)? {
         Some(functions) => {
-            let agree = agreement_of(alloc, bank, normal, &functions)?;
+            let agree = agreement_of(alloc, bank, &functions)?;
             Ok(Some(one(alloc, fails(agree))?))
         }
         None => Ok(None),

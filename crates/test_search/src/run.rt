@@ -8,23 +8,24 @@ use anyhow::bail;
 use mode_file::Mode;
 use outside::{Failed, GrowSink};
 use prover_run::{Ended, run};
-use refute_print::write_text;
+use refute_share::{SharedRefutation, write_shared_text};
 use std::alloc::{AllocError, Global};
 use std::str;
 use stt_core::{Problem, Signature};
 use stt_tableau::{accepts_plain, start_literals};
-use tableau_calculus::{Lits, Refutation};
+use tableau_calculus::Lits;
 
 /// Writes a refutation that the plain checker accepts for the start.
 fn write(
     alloc: Global,
     sig: &Signature,
     start: &Lits,
-    refutation: &Refutation,
+    refutation: &SharedRefutation,
     sink: &mut GrowSink,
 ) -> anyhow::Result<()> {
-    match accepts_plain(alloc, sig, start, refutation) {
-        Ok(()) => match write_text(sig, &[], refutation, sink) {
+    let plain = refutation.to_plain(alloc)?;
+    match accepts_plain(alloc, sig, start, &plain) {
+        Ok(()) => match write_shared_text(sig, &[], refutation, sink) {
             Ok(()) => Ok(()),
             Err(Failed) => Err(AllocError)?,
         },
@@ -33,7 +34,11 @@ fn write(
 }
 
 /// The text of a refutation of a problem.
-fn text_of(alloc: Global, problem: &Problem, refutation: &Refutation) -> anyhow::Result<String>
+fn text_of(
+    alloc: Global,
+    problem: &Problem,
+    refutation: &SharedRefutation,
+) -> anyhow::Result<String>
     requires { IsTyped problem.now }
 {
     let start = start_literals(alloc, problem)?;

@@ -16,18 +16,18 @@ use Rattle.prover_run.proofs.RunLaws.{accepted-declared}
 use Rattle.prover_run.proofs.SmallUses.{refutation-small}
 use Rattle.prover_run.proofs.running.refutation_by.Goals as goal
 
-pub rebuild-requires-clause-units : goal.rebuild-requires-clause-units
-rebuild-requires-clause-units c =
+pub rebuild_shared-requires-clause-units : goal.rebuild_shared-requires-clause-units
+rebuild_shared-requires-clause-units c =
     let t = c.args.tables.now in
     units-numbered t.basis c.requires.run.running.right.basis t.steps.0 c.requires.run.running.right.clauses
 
-pub rebuild-requires-clause-instances : goal.rebuild-requires-clause-instances
-rebuild-requires-clause-instances c =
+pub rebuild_shared-requires-clause-instances : goal.rebuild_shared-requires-clause-instances
+rebuild_shared-requires-clause-instances c =
     let t = c.args.tables.now in
     instances-over t.basis c.requires.run.running.right.basis t.steps.1 c.requires.run.running.made
 
-pub rebuild-requires-clause-closed : goal.rebuild-requires-clause-closed
-rebuild-requires-clause-closed c =
+pub rebuild_shared-requires-clause-closed : goal.rebuild_shared-requires-clause-closed
+rebuild_shared-requires-clause-closed c =
     let t = c.args.tables.now in
     let E : List LogEntry → Type 0 = λ log. EndsEmpty log in
     subst E (sym c.log-log.ensures.log) (ends-empty t.solver.log (learned t.solver) c.requires.ends)

@@ -7,5 +7,5 @@ use Rattle.tableau_rebuild.proofs.literals.lits_of.Given as goal
 abbrev pub invariant-loop-i : goal.invariant-loop-i
 invariant-loop-i l = record {
   lits : l.lits ≡ literals_of (atoms_at l.bank.terms l.atoms) (take l.i l.branch);
-  made : IsMadePool (atoms_at l.bank.terms l.atoms) l.pool;
+  made : IsMadePool l.bank.terms l.atoms l.pool;
 }

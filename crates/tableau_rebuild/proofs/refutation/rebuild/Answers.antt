@@ -1,38 +1,22 @@
-use Rattle.term_bank.specs.Content.{content_scope}
-use Rattle.tableau_rebuild.specs.Tables.{atoms_at, the_input, unit_literals}
 use Rattle.tableau_rebuild.proofs.refutation.rebuild.Goals as goal
 
+pub returns-clause-rebuilt : goal.returns-clause-rebuilt
+returns-clause-rebuilt c = rw c.in_ok-to_plain.ensures c.in_ok-shared.ensures.rebuilt
+
 pub returns-clause-accepted : goal.returns-clause-accepted
-returns-clause-accepted c =
-    let b = c.args.bank.now in
-    let atoms = c.args.lits.now in
-    let t = c.args.steps.now in
-    c.rebuilt_is_accepted.ensures.accepted (content_scope b) (unit_literals (atoms_at b.terms atoms) t.0) (the_input b atoms t c.args.log.now c.args.witnesses.now) c.in_ok-refutation_from.field-0 c.tables_are_given.ensures c.in_ok-refutation_from.ensures.rebuilt
+returns-clause-accepted c = rw c.in_ok-to_plain.ensures c.in_ok-shared.ensures.accepted
 
 pub returns-clause-closed : goal.returns-clause-closed
-returns-clause-closed c =
-    let b = c.args.bank.now in
-    let atoms = c.args.lits.now in
-    let t = c.args.steps.now in
-    c.rebuilt_is_accepted.ensures.closed (content_scope b) (unit_literals (atoms_at b.terms atoms) t.0) (the_input b atoms t c.args.log.now c.args.witnesses.now) c.in_ok-refutation_from.field-0 c.tables_are_given.ensures c.in_ok-refutation_from.ensures.rebuilt
+returns-clause-closed c = rw c.in_ok-to_plain.ensures c.in_ok-shared.ensures.closed
 
 pub returns-clause-reached : goal.returns-clause-reached
-returns-clause-reached c =
-    let b = c.args.bank.now in
-    let atoms = c.args.lits.now in
-    let t = c.args.steps.now in
-    c.rebuilt_is_trimmed.ensures.reached (content_scope b) (unit_literals (atoms_at b.terms atoms) t.0) (the_input b atoms t c.args.log.now c.args.witnesses.now) c.in_ok-refutation_from.field-0 c.tables_are_given.ensures c.in_ok-refutation_from.ensures.rebuilt
+returns-clause-reached c = rw c.in_ok-to_plain.ensures c.in_ok-shared.ensures.reached
 
 pub returns-clause-from_search : goal.returns-clause-from_search
-returns-clause-from_search c =
-    let b = c.args.bank.now in
-    let atoms = c.args.lits.now in
-    let t = c.args.steps.now in
-    c.rebuilt_is_trimmed.ensures.from_search (content_scope b) (unit_literals (atoms_at b.terms atoms) t.0) (the_input b atoms t c.args.log.now c.args.witnesses.now) c.in_ok-refutation_from.field-0 c.tables_are_given.ensures c.in_ok-refutation_from.ensures.rebuilt
+returns-clause-from_search c = rw c.in_ok-to_plain.ensures c.in_ok-shared.ensures.from_search
 
 pub returns-clause-few : goal.returns-clause-few
-returns-clause-few c =
-    let b = c.args.bank.now in
-    let atoms = c.args.lits.now in
-    let t = c.args.steps.now in
-    c.rebuilt_is_trimmed.ensures.few (content_scope b) (unit_literals (atoms_at b.terms atoms) t.0) (the_input b atoms t c.args.log.now c.args.witnesses.now) c.in_ok-refutation_from.field-0 c.tables_are_given.ensures c.in_ok-refutation_from.ensures.rebuilt
+returns-clause-few c = rw c.in_ok-to_plain.ensures c.in_ok-shared.ensures.few
+
+pub returns-clause-in_range : goal.returns-clause-in_range
+returns-clause-in_range c = rw c.in_ok-to_plain.ensures c.in_ok-shared.ensures.in_range

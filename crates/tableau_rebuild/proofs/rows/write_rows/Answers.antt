@@ -10,4 +10,7 @@ loop-w-preserved c =
     let terms = c.args.bank.now.terms in
     let ids = c.args.witnesses.now in
     let at = slice_get-map (λ id. row_of (term_at terms id)) ids c.loop-w.w ∙ ap (option_map (λ id. row_of (term_at terms id))) c.predicate.ensures in
-    copy_more (rows_of terms ids) c.loop-w.w (row_of (term_at terms c.predicate.result)) c.loop-w.rows c.push.new.self c.in_ok-row.row at c.loop-w.invariant c.in_ok-row.ensures c.in_ok-push.ensures.ok
+    record {
+      rows = copy_more (rows_of terms ids) c.loop-w.w (row_of (term_at terms c.predicate.result)) c.loop-w.rows c.push.new.self c.in_ok-row.row at c.loop-w.invariant.rows c.in_ok-row.ensures.row c.in_ok-push.ensures.ok;
+      known = c.in_ok-row.ensures.known;
+    }

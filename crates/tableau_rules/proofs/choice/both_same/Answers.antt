@@ -1,5 +1,5 @@
 use Rattle.stt_core.specs.View.{the_type}
-use Rattle.term_bank.proofs.GrowLaws.{grows_on}
+use Rattle.term_bank.proofs.GrowLaws.{grows_itself, grows_on}
 use Rattle.bank_normal.proofs.RightLaws.{right_grown}
 use Rattle.tableau_rules.proofs.TypedLaws.{declared_grown}
 use Rattle.tableau_rules.proofs.ChoiceLaws.{predicate_grown}
@@ -7,50 +7,49 @@ use Rattle.tableau_rules.proofs.NowhereLaws.{predicate_function}
 use Rattle.tableau_rules.proofs.VariableLaws.{type_declared, then_within, then_typed, both_within, both_typed, both_made}
 use Rattle.tableau_rules.proofs.choice.both_same.Goals as goal
 
-pub at_new_variable-requires-clause-function : goal.at_new_variable-requires-clause-function
-at_new_variable-requires-clause-function c =
-    predicate_function c.at_outer_variable.new.bank (the_type c.args.ty.now) c.args.f (predicate_grown c.args.bank.now c.at_outer_variable.new.bank (the_type c.args.ty.now) c.args.f c.at_outer_variable.ensures.grows c.requires.predicate)
+pub at_new_variable-inner-requires : goal.at_new_variable-inner-requires
+at_new_variable-inner-requires c =
+    (the_type c.args.ty.now, predicate_function c.at_outer_variable.new.bank (the_type c.args.ty.now) c.args.f (predicate_grown c.args.bank.now c.at_outer_variable.new.bank (the_type c.args.ty.now) c.args.f c.at_outer_variable.ensures.grows c.requires.predicate))
 
 pub same_variables-requires-clause-declared : goal.same_variables-requires-clause-declared
 same_variables-requires-clause-declared c =
-    declared_grown c.args.bank.now c.at_new_variable.new.bank (grows_on c.args.bank.now c.at_outer_variable.new.bank c.at_new_variable.new.bank c.at_outer_variable.ensures.grows c.at_new_variable.ensures.grows) (the_type c.args.ty.now)
+    declared_grown c.args.bank.now c.at_outer_variable.new.bank c.at_outer_variable.ensures.grows (the_type c.args.ty.now)
     (type_declared c.args.bank.now (the_type c.args.ty.now) c.args.f c.requires.predicate)
 
 pub intern_app-requires-clause-within : goal.intern_app-requires-clause-within
 intern_app-requires-clause-within c =
-    then_within c.args.bank.now (the_type c.args.ty.now) c.args.f c.requires.predicate c.at_outer_variable.new.bank c.at_new_variable.new.bank c.same_variables.new.bank c.in_ok-outer.outer c.in_ok-inner.inner c.in_ok-same.same
-    c.at_outer_variable.ensures.grows c.at_new_variable.ensures.grows c.same_variables.ensures.grows c.in_ok-outer.ensures.term c.in_ok-inner.ensures.term c.in_ok-same.ensures.term
+    then_within c.args.bank.now (the_type c.args.ty.now) c.args.f c.requires.predicate c.at_outer_variable.new.bank c.at_outer_variable.new.bank c.same_variables.new.bank c.in_ok-outer.outer c.at_new_variable-inner.result c.in_ok-same.same
+    c.at_outer_variable.ensures.grows (grows_itself c.at_outer_variable.new.bank) c.same_variables.ensures.grows c.in_ok-outer.ensures.term (c.at_new_variable-inner.ensures (the_type c.args.ty.now) (predicate_function c.at_outer_variable.new.bank (the_type c.args.ty.now) c.args.f (predicate_grown c.args.bank.now c.at_outer_variable.new.bank (the_type c.args.ty.now) c.args.f c.at_outer_variable.ensures.grows c.requires.predicate))) c.in_ok-same.ensures.term
 
 pub intern_app-requires-clause-typed : goal.intern_app-requires-clause-typed
 intern_app-requires-clause-typed c =
-    then_typed c.args.bank.now (the_type c.args.ty.now) c.args.f c.requires.predicate c.at_outer_variable.new.bank c.at_new_variable.new.bank c.same_variables.new.bank c.in_ok-outer.outer c.in_ok-inner.inner c.in_ok-same.same
-    c.at_outer_variable.ensures.grows c.at_new_variable.ensures.grows c.same_variables.ensures.grows c.in_ok-outer.ensures.term c.in_ok-inner.ensures.term c.in_ok-same.ensures.term
+    then_typed c.args.bank.now (the_type c.args.ty.now) c.args.f c.requires.predicate c.at_outer_variable.new.bank c.at_outer_variable.new.bank c.same_variables.new.bank c.in_ok-outer.outer c.at_new_variable-inner.result c.in_ok-same.same
+    c.at_outer_variable.ensures.grows (grows_itself c.at_outer_variable.new.bank) c.same_variables.ensures.grows c.in_ok-outer.ensures.term (c.at_new_variable-inner.ensures (the_type c.args.ty.now) (predicate_function c.at_outer_variable.new.bank (the_type c.args.ty.now) c.args.f (predicate_grown c.args.bank.now c.at_outer_variable.new.bank (the_type c.args.ty.now) c.args.f c.at_outer_variable.ensures.grows c.requires.predicate))) c.in_ok-same.ensures.term
 
 pub intern_app-requires-2-clause-within : goal.intern_app-requires-2-clause-within
 intern_app-requires-2-clause-within c =
-    both_within c.args.bank.now (the_type c.args.ty.now) c.args.f c.requires.predicate c.at_outer_variable.new.bank c.at_new_variable.new.bank c.same_variables.new.bank c.in_ok-outer.outer c.in_ok-inner.inner c.in_ok-same.same
-    c.at_outer_variable.ensures.grows c.at_new_variable.ensures.grows c.same_variables.ensures.grows c.in_ok-outer.ensures.term c.in_ok-inner.ensures.term c.in_ok-same.ensures.term
+    both_within c.args.bank.now (the_type c.args.ty.now) c.args.f c.requires.predicate c.at_outer_variable.new.bank c.at_outer_variable.new.bank c.same_variables.new.bank c.in_ok-outer.outer c.at_new_variable-inner.result c.in_ok-same.same
+    c.at_outer_variable.ensures.grows (grows_itself c.at_outer_variable.new.bank) c.same_variables.ensures.grows c.in_ok-outer.ensures.term (c.at_new_variable-inner.ensures (the_type c.args.ty.now) (predicate_function c.at_outer_variable.new.bank (the_type c.args.ty.now) c.args.f (predicate_grown c.args.bank.now c.at_outer_variable.new.bank (the_type c.args.ty.now) c.args.f c.at_outer_variable.ensures.grows c.requires.predicate))) c.in_ok-same.ensures.term
     c.intern_app.new.self c.in_ok-then.then c.intern_app.ensures.grows c.in_ok-then.ensures.term
 
 pub intern_app-requires-2-clause-typed : goal.intern_app-requires-2-clause-typed
 intern_app-requires-2-clause-typed c =
-    both_typed c.args.bank.now (the_type c.args.ty.now) c.args.f c.requires.predicate c.at_outer_variable.new.bank c.at_new_variable.new.bank c.same_variables.new.bank c.in_ok-outer.outer c.in_ok-inner.inner c.in_ok-same.same
-    c.at_outer_variable.ensures.grows c.at_new_variable.ensures.grows c.same_variables.ensures.grows c.in_ok-outer.ensures.term c.in_ok-inner.ensures.term c.in_ok-same.ensures.term
+    both_typed c.args.bank.now (the_type c.args.ty.now) c.args.f c.requires.predicate c.at_outer_variable.new.bank c.at_outer_variable.new.bank c.same_variables.new.bank c.in_ok-outer.outer c.at_new_variable-inner.result c.in_ok-same.same
+    c.at_outer_variable.ensures.grows (grows_itself c.at_outer_variable.new.bank) c.same_variables.ensures.grows c.in_ok-outer.ensures.term (c.at_new_variable-inner.ensures (the_type c.args.ty.now) (predicate_function c.at_outer_variable.new.bank (the_type c.args.ty.now) c.args.f (predicate_grown c.args.bank.now c.at_outer_variable.new.bank (the_type c.args.ty.now) c.args.f c.at_outer_variable.ensures.grows c.requires.predicate))) c.in_ok-same.ensures.term
     c.intern_app.new.self c.in_ok-then.then c.intern_app.ensures.grows c.in_ok-then.ensures.term
 
 pub returns-clause-term : goal.returns-clause-term
 returns-clause-term c =
-    both_made c.args.bank.now (the_type c.args.ty.now) c.args.f c.requires.predicate c.at_outer_variable.new.bank c.at_new_variable.new.bank c.same_variables.new.bank c.in_ok-outer.outer c.in_ok-inner.inner c.in_ok-same.same
-    c.at_outer_variable.ensures.grows c.at_new_variable.ensures.grows c.same_variables.ensures.grows c.in_ok-outer.ensures.term c.in_ok-inner.ensures.term c.in_ok-same.ensures.term
+    both_made c.args.bank.now (the_type c.args.ty.now) c.args.f c.requires.predicate c.at_outer_variable.new.bank c.at_outer_variable.new.bank c.same_variables.new.bank c.in_ok-outer.outer c.at_new_variable-inner.result c.in_ok-same.same
+    c.at_outer_variable.ensures.grows (grows_itself c.at_outer_variable.new.bank) c.same_variables.ensures.grows c.in_ok-outer.ensures.term (c.at_new_variable-inner.ensures (the_type c.args.ty.now) (predicate_function c.at_outer_variable.new.bank (the_type c.args.ty.now) c.args.f (predicate_grown c.args.bank.now c.at_outer_variable.new.bank (the_type c.args.ty.now) c.args.f c.at_outer_variable.ensures.grows c.requires.predicate))) c.in_ok-same.ensures.term
     c.intern_app.new.self c.in_ok-then.then c.intern_app.ensures.grows c.in_ok-then.ensures.term
     c.intern_app-2.new.self c.in_ok-intern_app.field-0 c.in_ok-intern_app.ensures.term
 
 pub returns-clause-grows : goal.returns-clause-grows
 returns-clause-grows c =
     grows_on c.args.bank.now c.at_outer_variable.new.bank c.intern_app-2.new.self c.at_outer_variable.ensures.grows
-    (grows_on c.at_outer_variable.new.bank c.at_new_variable.new.bank c.intern_app-2.new.self c.at_new_variable.ensures.grows
-    (grows_on c.at_new_variable.new.bank c.same_variables.new.bank c.intern_app-2.new.self c.same_variables.ensures.grows
-    (grows_on c.same_variables.new.bank c.intern_app.new.self c.intern_app-2.new.self c.intern_app.ensures.grows c.intern_app-2.ensures.grows)))
+    (grows_on c.at_outer_variable.new.bank c.same_variables.new.bank c.intern_app-2.new.self c.same_variables.ensures.grows
+    (grows_on c.same_variables.new.bank c.intern_app.new.self c.intern_app-2.new.self c.intern_app.ensures.grows c.intern_app-2.ensures.grows))
 
 pub returns-clause-right : goal.returns-clause-right
 returns-clause-right c =

@@ -4,9 +4,16 @@ use Rattle.stt_core.specs.View.{the_type}
 use Rattle.tableau_calculus.specs.Rules.{nowhere}
 use Rattle.term_bank.specs.Terms.{term_at}
 use Rattle.term_bank.proofs.GrowLaws.{grows_on, grown_term}
+use Rattle.bank_normal.proofs.RightLaws.{right_grown}
 use Rattle.tableau_rules.specs.Internal.Typed.{IsPredicateType}
 use Rattle.tableau_rules.proofs.ChoiceDrafts.{cho_found, picked_back}
 use Rattle.tableau_rules.proofs.choice.cho_drafts.Goals as goal
+
+pub returns-in_err-none-in-Some-clause-right : goal.returns-in_err-none-in-Some-clause-right
+returns-in_err-none-in-Some-clause-right c = right_grown c.args.normal.now c.args.bank.now c.nowhere_of.new.bank c.nowhere_of.ensures.grows c.requires.right
+
+pub holds_of_picked-requires-clause-right : goal.holds_of_picked-requires-clause-right
+holds_of_picked-requires-clause-right c = right_grown c.args.normal.now c.args.bank.now c.nowhere_of.new.bank c.nowhere_of.ensures.grows c.requires.right
 
 pub returns-in_ok-either-in-Some-clause-drafted : goal.returns-in_ok-either-in-Some-clause-drafted
 returns-in_ok-either-in-Some-clause-drafted c = λ rows.

@@ -4,10 +4,17 @@ use Rattle.stt_core.specs.View.{the_type}
 use Rattle.tableau_calculus.specs.Rules.{nowhere, at_most_once}
 use Rattle.term_bank.specs.Terms.{term_at}
 use Rattle.term_bank.proofs.GrowLaws.{grows_on, grown_term, grown_at}
+use Rattle.bank_normal.proofs.RightLaws.{right_grown}
 use Rattle.tableau_rules.specs.Internal.Typed.{IsPredicateType}
 use Rattle.tableau_rules.proofs.DraftLaws.{yes, nay}
 use Rattle.tableau_rules.proofs.ChoiceDrafts.{des_found, picked_back}
 use Rattle.tableau_rules.proofs.choice.des_drafts.Goals as goal
+
+pub returns-in_err-none-in-Some-clause-right : goal.returns-in_err-none-in-Some-clause-right
+returns-in_err-none-in-Some-clause-right c = right_grown c.args.normal.now c.args.bank.now c.nowhere_of.new.bank c.nowhere_of.ensures.grows c.requires.right
+
+pub at_most_once_of-requires-clause-right : goal.at_most_once_of-requires-clause-right
+at_most_once_of-requires-clause-right c = right_grown c.args.normal.now c.args.bank.now c.nowhere_of.new.bank c.nowhere_of.ensures.grows c.requires.right
 
 pub returns-in_ok-any_of_three-in-Some-clause-drafted : goal.returns-in_ok-any_of_three-in-Some-clause-drafted
 returns-in_ok-any_of_three-in-Some-clause-drafted c = λ rows.

@@ -1,7 +1,6 @@
 use Rattle.std.proofs.Common.{Some, refl}
 use Rattle.tableau_calculus.specs.declared.refutation.RuleUse.TheVariants as table
 use Rattle.literal_map.specs.declared.instance.RuleKind.TheVariants as kind
-use Rattle.bank_normal.proofs.RightLaws.{right_grown}
 use Rattle.tableau_rules.proofs.UseLaws.{principal_now, one_by, cut_by}
 use Rattle.tableau_rules.proofs.dispatch.by_one.Goals as goal
 
@@ -46,9 +45,3 @@ returns-in_ok-dec_drafts-in-Dec-clause-drafted c =
 
 pub returns-in_ok-cut_drafts-in-Cut-clause-drafted : goal.returns-in_ok-cut_drafts-in-Cut-clause-drafted
 returns-in_ok-cut_drafts-in-Cut-clause-drafted c = cut_by c.args.bank.now c.args.lits.now c.args.kind c.args.lit c.principal_of-p.result (Some c.in_ok-cut_drafts-in-Cut.field-0) c.in-Cut.is c.principal_of-p.ensures.is c.in_ok-cut_drafts-in-Cut.ensures
-
-pub returns-in_err-dec_drafts-in-Dec-clause-right : goal.returns-in_err-dec_drafts-in-Dec-clause-right
-returns-in_err-dec_drafts-in-Dec-clause-right c = right_grown c.args.normal.now c.args.bank.now c.dec_drafts.new.bank c.dec_drafts.ensures.grows c.requires.right
-
-pub returns-in_ok-dec_drafts-in-Dec-clause-right : goal.returns-in_ok-dec_drafts-in-Dec-clause-right
-returns-in_ok-dec_drafts-in-Dec-clause-right c = right_grown c.args.normal.now c.args.bank.now c.dec_drafts.new.bank c.dec_drafts.ensures.grows c.requires.right

@@ -21,6 +21,12 @@ returns-in_ok-by_one_and_term-in-Some-term-2-clause-drafted c =
     subst (λ u. (rows : List Row) → DraftedBy c.by_one_and_term.new.bank c.args.lits.now rows u c.in_ok-by_one_and_term-in-Some-term-2.field-0)
     (by_fields c.args.by.now (Some c.in-Some.first) None (Some c.in-Some-term-2.term) c.in-Some.is c.in-None-second.is c.in-Some-term-2.is) c.in_ok-by_one_and_term-in-Some-term-2.ensures.drafted
 
+pub returns-in_err-by_one-in-None-term-2-clause-right : goal.returns-in_err-by_one-in-None-term-2-clause-right
+returns-in_err-by_one-in-None-term-2-clause-right c = right_grown c.args.normal.now c.args.bank.now c.by_one.new.bank c.by_one.ensures.grows c.requires.right
+
+pub returns-in_ok-by_one-in-None-term-2-clause-right : goal.returns-in_ok-by_one-in-None-term-2-clause-right
+returns-in_ok-by_one-in-None-term-2-clause-right c = right_grown c.args.normal.now c.args.bank.now c.by_one.new.bank c.by_one.ensures.grows c.requires.right
+
 pub returns-in_ok-by_one-in-None-term-2-clause-drafted : goal.returns-in_ok-by_one-in-None-term-2-clause-drafted
 returns-in_ok-by_one-in-None-term-2-clause-drafted c =
     subst (λ u. (rows : List Row) → DraftedBy c.by_one.new.bank c.args.lits.now rows u c.in_ok-by_one-in-None-term-2.field-0)

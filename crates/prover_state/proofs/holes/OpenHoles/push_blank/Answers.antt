@@ -14,4 +14,4 @@ returns c =
     lists-last old c.add_blank.new.self c.self.inside.lists.items c.push.new.self.items c.in_ok-number.number c.args.self.now (blank_hole [] a ∷ []) c.add_blank.ensures.extends c.self.invariant c.self.view_is c.in_ok-push.ensures.items
     (ap (chain c.add_blank.new.self) c.in_ok-number.ensures
     ∙ c.in_ok-list.ensures.list
-    ∙ ap₂ (λ (types : List SimpleType) (hs : List Hole). blank_hole (reverse types) a ∷ hs) (c.in_ok-context.ensures.ok ∙ c.new.ensures) (chain-none old))
+    ∙ ap₂ (λ (types : List SimpleType) (hs : List Hole). blank_hole (reverse types) a ∷ hs) c.in_ok-context.ensures (chain-none old))

@@ -16,6 +16,6 @@ invariant-loop-k l = record {
   lines : l.self.written.lines ≡ map (λ i. line_of (atoms_at l.bank.terms l.atoms) (map (the_tree l.bank.terms l.atoms l.steps l.drafts) l.order) (the_tree l.bank.terms l.atoms l.steps l.drafts i)) (take l.k l.order);
   rows : l.self.written.rows ≡ rows_for_lines (rows_of l.bank.terms l.witnesses) l.self.written.lines;
   empty : l.self.resolver.resolver ≡ [];
-  made : IsMadePool (atoms_at l.bank.terms l.atoms) l.self.pool;
+  made : IsMadePool l.bank.terms l.atoms l.self.pool;
   in_range : AllByRecursion HasNumbers l.self.written.lines;
 }

@@ -1,0 +1,5 @@
+mod Lists
+mod Writes
+mod TermTexts
+mod LineTexts
+mod TermPoolLaws

@@ -1,0 +1,10 @@
+use Rattle.std.proofs.Common.{take}
+use Rattle.refute_print.specs.Internal.Pieces.{child_piece}
+use Rattle.outside.specs.Writing.{Took}
+use Rattle.refute_share.proofs.Lists.{all_texts}
+use Rattle.refute_share.proofs.write_line.write_children.Given as goal
+
+abbrev pub invariant-loop-i : goal.invariant-loop-i
+invariant-loop-i g l =
+    let sink = g.S.Sink in
+    Took sink.tells sink.written sink.faults l.fn.sink l.sink (all_texts (λ i x. child_piece i x) 0 (take l.i l.children))

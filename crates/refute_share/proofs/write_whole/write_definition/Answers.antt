@@ -1,0 +1,20 @@
+use Rattle.std.proofs.Common.{codes}
+use Rattle.outside.proofs.Writes.{on_err, stopped_first, stopped_later}
+use Rattle.refute_share.proofs.Writes.{took_after, stopped_after}
+use Rattle.refute_share.proofs.write_whole.write_definition.Goals as goal
+
+pub returns-in_err-write-clause-stopped : goal.returns-in_err-write-clause-stopped
+returns-in_err-write-clause-stopped g c = on_err c.from_residual.result (stopped_first (codes "d ") _ c.in_err-write.ensures.stopped)
+
+pub returns-in_err-write_constant-clause-stopped : goal.returns-in_err-write_constant-clause-stopped
+returns-in_err-write_constant-clause-stopped g c =
+    on_err c.from_residual-in_err-write_constant.result
+    (stopped_later (codes "d ") _ c.in_ok-write.ensures.took (stopped_first _ (codes "\n") c.in_err-write_constant.ensures.stopped))
+
+pub returns-clause-took : goal.returns-clause-took
+returns-clause-took g c =
+    took_after _ _ _ _ _ c.write-2.result (codes "d ") _ c.in_ok-write.ensures.took (took_after _ _ _ _ _ c.write-2.result _ (codes "\n") c.in_ok-write_constant.ensures.took c.write-2.ensures.took)
+
+pub returns-clause-stopped : goal.returns-clause-stopped
+returns-clause-stopped g c =
+    stopped_after _ _ _ _ _ c.write-2.result (codes "d ") _ c.in_ok-write.ensures.took (stopped_after _ _ _ _ _ c.write-2.result _ (codes "\n") c.in_ok-write_constant.ensures.took c.write-2.ensures.stopped)

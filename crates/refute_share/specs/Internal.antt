@@ -1,0 +1,3 @@
+-- Means of proof: what private contracts and proofs speak of.
+pub mod Sizes
+pub mod Room

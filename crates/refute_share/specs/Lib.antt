@@ -1,0 +1,10 @@
+pub use Rattle.outside.specs.Causes
+pub use Rattle.outside.specs.Prefix
+pub use Rattle.outside.specs.Writing
+pub use Rattle.refute_print.specs.Named
+pub use Rattle.refute_print.specs.Text
+pub use Rattle.tableau_calculus.specs.Literals
+pub use Rattle.term_bank.specs.Terms
+pub mod KnownTerms
+pub mod RuleView
+pub mod Internal

@@ -1,0 +1,98 @@
+//! Writes rules.
+
+ghost use Rattle.std.specs.Prelude.{◌≡◌, ◌++◌, codes, decimal, OnOk, OnErr};
+ghost use Rattle.refute_print.specs.Text.{term_text, sign_text, literal_text, rule_text};
+ghost use Rattle.refute_print.specs.Named.{names_of, named_term, named_literal, named_rule, HasNames, HasRuleNames};
+ghost use Rattle.outside.specs.Writing.{Took, Stopped};
+ghost use Rattle.refute_share.specs.RuleView.{the_rule_use};
+
+use crate::lit::SharedLit;
+use crate::refutation::SharedRule;
+use crate::term::SharedTerm;
+use crate::write_bytes::write_numbered;
+use crate::write_term::write_term_between;
+use outside::{Failed, Sink};
+use stt_core::Signature;
+
+/// Writes a rule with two places.
+fn write_two_places<S: Sink>(
+    sink: &mut S,
+    rule: &[u8],
+    first: usize,
+    second: usize,
+) -> Result<(), Failed>
+    ensures took { OnOk result (Took S.tells S.written S.faults sink.old sink.new
+        (rule.now ++ (decimal first ++ (codes "," ++ (decimal second ++ codes ")"))))) }
+    ensures stopped { OnErr result (Stopped S.tells S.written S.faults sink.old sink.new
+        (rule.now ++ (decimal first ++ (codes "," ++ (decimal second ++ codes ")"))))) }
+{
+    write_numbered(sink, rule, first, b",")?;
+    write_numbered(sink, b"", second, b")")
+}
+
+/// Writes the rule of a place and a term for its instance.
+fn write_instance<S: Sink>(
+    sink: &mut S,
+    sig: &Signature,
+    place: usize,
+    term: &SharedTerm,
+) -> Result<(), Failed>
+    requires { HasNames (names_of sig.now.bases sig.now.consts) term.now }
+    ensures took { OnOk result (Took S.tells S.written S.faults sink.old sink.new
+        (codes "All+(" ++ (decimal place ++ (codes ";" ++ (term_text (named_term (names_of sig.now.bases sig.now.consts) term.now) ++ codes ")"))))) }
+    ensures stopped { OnErr result (Stopped S.tells S.written S.faults sink.old sink.new
+        (codes "All+(" ++ (decimal place ++ (codes ";" ++ (term_text (named_term (names_of sig.now.bases sig.now.consts) term.now) ++ codes ")"))))) }
+{
+    write_numbered(sink, b"All+(", place, b";")?;
+    write_term_between(sink, sig, b"", term, b")")
+}
+
+/// What stands before the formula of a cut's literal.
+fn cut_sign(positive: bool) -> &'static [u8]
+    ensures { result.now ≡ codes "Cut(" ++ sign_text positive }
+{
+    if positive { b"Cut(+" } else { b"Cut(-" }
+}
+
+fn write_cut<S: Sink>(sink: &mut S, sig: &Signature, lit: &SharedLit) -> Result<(), Failed>
+    requires { HasNames (names_of sig.now.bases sig.now.consts) lit.now.atom }
+    ensures took { OnOk result (Took S.tells S.written S.faults sink.old sink.new
+        (codes "Cut(" ++ (literal_text (named_literal (names_of sig.now.bases sig.now.consts) lit.now) ++ codes ")"))) }
+    ensures stopped { OnErr result (Stopped S.tells S.written S.faults sink.old sink.new
+        (codes "Cut(" ++ (literal_text (named_literal (names_of sig.now.bases sig.now.consts) lit.now) ++ codes ")"))) }
+{
+    write_term_between(sink, sig, cut_sign(lit.positive), &lit.atom, b")")
+}
+
+/// Writes a rule.
+pub(crate) fn write_rule<S: Sink>(
+    sink: &mut S,
+    sig: &Signature,
+    rule: &SharedRule,
+) -> Result<(), Failed>
+    requires { HasRuleNames (names_of sig.now.bases sig.now.consts) (the_rule_use rule.now) }
+    ensures took { OnOk result (Took S.tells S.written S.faults sink.old sink.new
+        (rule_text (named_rule (names_of sig.now.bases sig.now.consts) (the_rule_use rule.now)))) }
+    ensures stopped { OnErr result (Stopped S.tells S.written S.faults sink.old sink.new
+        (rule_text (named_rule (names_of sig.now.bases sig.now.consts) (the_rule_use rule.now)))) }
+{
+    match rule {
+        SharedRule::False(i) => write_numbered(sink, b"False(", *i, b")"),
+        SharedRule::Close(i, j) => write_two_places(sink, b"Close(", *i, *j),
+        SharedRule::Refl(i) => write_numbered(sink, b"Refl(", *i, b")"),
+        SharedRule::ImpPos(i) => write_numbered(sink, b"Imp+(", *i, b")"),
+        SharedRule::ImpNeg(i) => write_numbered(sink, b"Imp-(", *i, b")"),
+        SharedRule::BoolPos(i) => write_numbered(sink, b"Bool+(", *i, b")"),
+        SharedRule::BoolNeg(i) => write_numbered(sink, b"Bool-(", *i, b")"),
+        SharedRule::FunPos(i) => write_numbered(sink, b"Fun+(", *i, b")"),
+        SharedRule::FunNeg(i) => write_numbered(sink, b"Fun-(", *i, b")"),
+        SharedRule::AllPos(i, term) => write_instance(sink, sig, *i, term),
+        SharedRule::AllNeg(i) => write_numbered(sink, b"All-(", *i, b")"),
+        SharedRule::Mat(i, j) => write_two_places(sink, b"Mat(", *i, *j),
+        SharedRule::Dec(i) => write_numbered(sink, b"Dec(", *i, b")"),
+        SharedRule::Con(i, j) => write_two_places(sink, b"Con(", *i, *j),
+        SharedRule::Cho(predicate) => write_term_between(sink, sig, b"Cho(", predicate, b")"),
+        SharedRule::Des(predicate) => write_term_between(sink, sig, b"Des(", predicate, b")"),
+        SharedRule::Cut(lit) => write_cut(sink, sig, lit),
+    }
+}
