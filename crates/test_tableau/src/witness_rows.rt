@@ -59,7 +59,7 @@ fn failure(alloc: Global, rows: &[Row]) -> Result<(usize, Why), Fail> {
     match accepts_plain(alloc, &Signature::new(alloc), &start, &refutation) {
         Ok(()) => Err("no row fails")?,
         Err(PlainRefused::Refused { line, why }) => Ok((line, why)),
-        Err(PlainRefused::Memory) => Err("want of memory")?,
+        Err(PlainRefused::Memory) => Err("out of memory")?,
     }
 }
 
