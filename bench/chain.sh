@@ -1,8 +1,9 @@
 #!/usr/bin/env bash
 # Times chains of N implications from the first name to the last, in this order and in the reverse one: bench/chain.sh [N ..]
-# Milliseconds are of a processor, the least of five calls.
+# Milliseconds are of a processor, the least of five calls. SATALLAX names another program than out/satallax.
 set -eu
 top=$(dirname -- "$(dirname -- "$(readlink -f -- "$0")")")
+program=$(readlink -f -- "${SATALLAX:-$top/out/satallax}")
 folder=$(mktemp -d)
 trap 'rm -r "$folder"' EXIT
 
@@ -18,11 +19,10 @@ chain() {
 least() {
   local TIMEFORMAT='%U %S'
   for _ in 1 2 3 4 5; do
-    { time "$top/out/satallax" "$@" >"$folder/out" || true; } 2>&1
+    { time "$program" "$@" >"$folder/out" || true; } 2>&1
   done | awk '{ print int(1000 * ($1 + $2)) }' | sort -n | head -n 1
 }
 
-"$top/satallax" "$top/examples/true.p" >"$folder/out"
 for n in "${@:-200}"; do
   seq 0 $((n - 1)) | chain "$n" >"$folder/forward.p"
   seq $((n - 1)) -1 0 | chain "$n" >"$folder/backward.p"

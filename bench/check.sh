@@ -1,8 +1,9 @@
 #!/usr/bin/env bash
 # Times the check of texts of N lines over branches of N literals: bench/check.sh [N ..]
-# Milliseconds are of a processor, the least of five calls.
+# Milliseconds are of a processor, the least of five calls. SATALLAX names another program than out/satallax.
 set -eu
 top=$(dirname -- "$(dirname -- "$(readlink -f -- "$0")")")
+program=$(readlink -f -- "${SATALLAX:-$top/out/satallax}")
 folder=$(mktemp -d)
 trap 'rm -r "$folder"' EXIT
 
@@ -26,11 +27,10 @@ text() {
 least() {
   local TIMEFORMAT='%U %S'
   for _ in 1 2 3 4 5; do
-    { time "$top/out/satallax" "$@" >"$folder/out" || true; } 2>&1
+    { time "$program" "$@" >"$folder/out" || true; } 2>&1
   done | awk '{ print int(1000 * ($1 + $2)) }' | sort -n | head -n 1
 }
 
-"$top/satallax" "$top/examples/true.p" >"$folder/out"
 [ $# -gt 0 ] || set -- 400 800 1600
 for n in "$@"; do
   problem "$n" >"$folder/g.p"

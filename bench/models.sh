@@ -1,8 +1,10 @@
 #!/usr/bin/env bash
-# Times the search for finite models: bench/models.sh. For each problem the bound, the processor time of the whole call in milliseconds, the least
-# of five calls, and the last line of the report. Where the number of nodes that the search evaluates is known, it says how many that is a second.
+# Times the search for finite models: bench/models.sh. For each problem the bound, the processor time of the whole call in milliseconds, the
+# least of five calls, and the last line of the report. Where the number of nodes that the search evaluates is known, it says how many that is
+# a second. SATALLAX names another program than out/satallax.
 set -eu
 top=$(dirname -- "$(dirname -- "$(readlink -f -- "$0")")")
+program=$(readlink -f -- "${SATALLAX:-$top/out/satallax}")
 folder=$(mktemp -d)
 trap 'rm -r "$folder"' EXIT
 
@@ -56,14 +58,13 @@ measure() { # the bound, the problem's name, how many nodes are evaluated
   local least='' used
   for _ in 1 2 3 4 5; do
     TIMEFORMAT='%U %S'
-    used=$({ time "$top/out/satallax" --models "$1" "$folder/$2.p" >"$folder/out" || true; } 2>&1 | awk '{print int(1000 * ($1 + $2))}')
+    used=$({ time "$program" --models "$1" "$folder/$2.p" >"$folder/out" || true; } 2>&1 | awk '{print int(1000 * ($1 + $2))}')
     if [ -z "$least" ] || [ "$used" -lt "$least" ]; then least=$used; fi
   done
   echo "--models $1 $2.p: $least ms, $(tail -n 1 "$folder/out")"
   if [ -n "${3-}" ] && [ "$least" -gt 0 ]; then echo "  $3 nodes, $((1000 * $3 / least)) a second"; fi
 }
 
-"$top/satallax" "$top/examples/true.p" >"$folder/out"
 for problem in propositions ten onto order nested unused constant inner; do "$problem" >"$folder/$problem.p"; done
 measure 1 propositions
 measure 1 ten 5242880

@@ -7,7 +7,7 @@ Inputs are random by the seed: problems, mutated problems and texts, includes, m
 below; without a kind each of them has its share of the count. Both programs run on each input, with an address space of 3 GB and so many
 seconds of processor time. Exit status and output have to be the same up to a refutation, since which one is written is the solver's affair.
 But OTHER has to accept each refutation that the program writes. Not compared are runs in which one of the two comes to its conflict limit,
-runs out of memory, or runs out of time. A status of the program that docs/REPORTS.md doesn't have, or a signal, is a difference in any case.
+runs out of memory, or runs out of time. A status of the program that docs/REPORTS.md doesn't have, or a signal, is always a difference.
 
 The program is out/satallax, or the one that SATALLAX names. Each input that shows a difference is kept in a folder of its own, where FOLDER
 is given: the files, the words (between null bytes) and both outputs. Ends with 1 where there is a difference.
@@ -55,7 +55,8 @@ class End:
 
 
 def run(program: Path, of: Input) -> End:
-    done = subprocess.run([program, *of.words], stdin=subprocess.DEVNULL, stdout=subprocess.PIPE, stderr=subprocess.DEVNULL, close_fds=False, check=False)
+    streams = {"stdin": subprocess.DEVNULL, "stdout": subprocess.PIPE, "stderr": subprocess.DEVNULL}
+    done = subprocess.run([program, *of.words], **streams, close_fds=False, check=False)
     return End(done.returncode if done.returncode >= 0 else 256 - done.returncode, done.stdout)
 
 
@@ -89,14 +90,14 @@ def tried(other: Path, of: Input) -> tuple[str, End, End | None]:
         return "alike", own, second
     Path("written").write_bytes(own.written)
     word = b"--strict" if re.search(rb"(?m)^% tree \d", own.written) else b"--check"
-    check = Input([word, b"written", of.words[-1]], {})
-    accepted = run(other, check)
+    accepted = run(other, Input([word, b"written", b"--", of.words[-1]]))
     return ("alike, its text accepted" if accepted.status == 0 else "different"), own, accepted
 
 
 def keep(folder: Path, of: Input, ends: tuple[End, End | None]) -> None:
     folder.mkdir(parents=True, exist_ok=True)
-    for name, data in {**of.files, b"words": b"\0".join(of.words), b"own": ends[0].written, b"other": ends[1].written if ends[1] else b""}.items():
+    ends_files = {b"own": ends[0].written, b"other": ends[1].written if ends[1] else b""}
+    for name, data in {**of.files, b"words": b"\0".join(of.words), **ends_files}.items():
         (folder / os.fsdecode(name).replace("/", "_")).write_bytes(data)
 
 
@@ -138,7 +139,8 @@ def main() -> int:
                     print(f"{kind} {index}: {b' '.join(of.words)!r}: {both[0].shown()}; the other: {both[1].shown()}", flush=True)
                 if kept and what not in ("alike", "alike, its text accepted"):
                     keep(kept / what.replace(" ", "_") / f"{kind}_{given.seed}_{index}", of, tuple(both))
-            print(f"{kind}: " + ", ".join(f"{count} {what}" for (of_kind, what), count in sorted(ends.items()) if of_kind == kind), flush=True)
+            told = [f"{count} {what}" for (of_kind, what), count in sorted(ends.items()) if of_kind == kind]
+            print(f"{kind}: {', '.join(told)}", flush=True)
         os.chdir("/")
     different = sum(count for (_, what), count in ends.items() if what == "different")
     print(f"{sum(ends.values())} inputs by seed {given.seed}, {different} different, {time.monotonic() - begun:.0f} s")

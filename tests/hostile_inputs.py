@@ -32,8 +32,9 @@ class Corpus:
     def __init__(self) -> None:
         self.problems: list[tuple[list[bytes], dict[bytes, bytes]]] = []
         self.texts: list[tuple[list[bytes], dict[bytes, bytes]]] = []
+        included = {b"examples/weather.ax": (TOP / "examples" / "weather.ax").read_bytes()}
         for path in [*sorted((TOP / "examples").glob("*.p")), *sorted((TOP / "bench" / "goals").glob("*.p"))]:
-            self.problems.append(([b"p.p"], {b"p.p": path.read_bytes(), b"examples/weather.ax": (TOP / "examples" / "weather.ax").read_bytes()}))
+            self.problems.append(([b"p.p"], {b"p.p": path.read_bytes(), **included}))
         for path in sorted((TOP / "crates" / "test_cases" / "data").glob("*.cases")):
             for case in cases(path):
                 words, files = [bytes(w) for w in case.words], {n.encode(): bytes(f) for n, f in case.files.items()}
@@ -184,7 +185,8 @@ def byte(pick: random.Random, data: bytes) -> bytes:
         if way < 2:
             del out[at : at + pick.choice((1, 1, 3, 20))]
         elif way < 5:
-            out[at : at + way - 3] = bytes([pick.choice((pick.randrange(256), pick.randrange(32, 127), *b"\n\r\t\0()[]'\\%/*$#-0\x7f\x80\xff"))])
+            chosen = pick.choice((pick.randrange(256), pick.randrange(32, 127), *b"\n\r\t\0()[]'\\%/*$#-0\x7f\x80\xff"))
+            out[at : at + way - 3] = bytes([chosen])
         elif way < 7:
             out[at:at] = out[max(0, at - pick.choice((1, 5, 40))) : at]
         elif pick.random() < 0.3:
@@ -211,20 +213,18 @@ def bytes_(pick: random.Random) -> Input:
     return mutated(pick, lambda data: byte(pick, data))
 
 
-TEXT_TOKENS = [b"0", b"1", b"2", b"7", b"x", b"[]", b"w0", b"w1", b"$w0", b"#0", b"#1", b"+", b"-", b"False", b"Close", b"Refl", b"Imp+", b"Imp-"]
-TEXT_TOKENS += [b"Bool+", b"Bool-", b"Fun+", b"Fun-", b"All+", b"All-", b"Mat", b"Dec", b"Con", b"Cho", b"Des", b"Cut", b"$f", b"$not", b"$imp"]
-TEXT_TOKENS += [b"$all[$i]", b"$eq[$i]", b"$eq[$o]", b"$eps[$i]", b"$the[$i]", b"^$i.", b"($i>$o)", b"$o", b"$i", b"version 2", b"d p", b"'", b"00"]
-TEXT_TOKENS += [b"4294967295", b"4294967296", b"18446744073709551615", b"18446744073709551616", b"(", b")", b",", b";", b":", b"\n", b" ", b"\r\n"]
-
+TEXT_TOKENS = b"""0 1 2 7 x [] w0 w1 $w0 #0 #1 + - False Close Refl Imp+ Imp- Bool+ Bool- Fun+ Fun- All+ All- Mat Dec Con Cho Des Cut $f
+    $not $imp $all[$i] $eq[$i] $eq[$o] $eps[$i] $the[$i] ^$i. ($i>$o) $o $i ' 00 4294967295 4294967296 18446744073709551615 18446744073709551616
+    ( ) , ; :""".split() + [b"version 2", b"d p", b"\n", b" ", b"\r\n"]
 
 # What may stand in place of one another without a change of form: numbers, rules, signs, whole literals, terms of one head, types.
-ALIKE = [re.compile(it) for it in (rb"\d+", rb"(?<=: )[A-Z][a-z]+[+-]?(?=\()", rb"(?<=[\[,])[+-]", rb"(?<=[\[,])[+-][^,\]]+", rb"\$w\d+|\b[a-z]\w*\b", rb"#\d+")]
-ALIKE += [re.compile(it) for it in (rb"\$(?:eq|all|eps|the)\[[^][]*\]", rb"\$[oi]\b", rb"\([^()]*\)", rb"\[[^][]*\]")]
+ALIKE = [rb"\d+", rb"(?<=: )[A-Z][a-z]+[+-]?(?=\()", rb"(?<=[\[,])[+-]", rb"(?<=[\[,])[+-][^,\]]+", rb"\$w\d+|\b[a-z]\w*\b", rb"#\d+"]
+ALIKE += [rb"\$(?:eq|all|eps|the)\[[^][]*\]", rb"\$[oi]\b", rb"\([^()]*\)", rb"\[[^][]*\]"]
 
 
 def exchanged(pick: random.Random, data: bytes) -> bytes:
     """One piece of a text in place of another one of its kind."""
-    found = list(pick.choice(ALIKE).finditer(data))
+    found = list(re.finditer(pick.choice(ALIKE), data))
     if len(found) < 2:
         return lines(pick, data)
     at, by = pick.choice(found), pick.choice(found)
@@ -271,12 +271,14 @@ def include(pick: random.Random) -> Input:
     names = [pick.choice(("f%d.ax", "d/f%d", "f %d", "../here/f%d.ax", "F%d'")) % k for k in range(many)]
     files = {}
     for k in range(many):
-        rows = [f"thf({pick.choice(('n', 'm', '7', 'k'))},axiom,{pick.choice(('$true', '$false', 'p', '~ p'))})." for _ in range(pick.randrange(3))]
+        label, said = (lambda: pick.choice("nm7k")), (lambda: pick.choice(("$true", "$false", "p", "~ p")))
+        rows = [f"thf({label()},axiom,{said()})." for _ in range(pick.randrange(3))]
         if pick.random() < 0.6 or k == many - 1:
             rows.insert(0, "thf(p,type,p: $o)." if pick.random() < 0.7 else "")
         for _ in range(pick.choice((0, 1, 1, 2)) if k < many - 1 else pick.choice((0, 0, 0, 1))):
             to = pick.choice(names[k + 1 :]) if k < many - 1 and pick.random() < 0.95 else pick.choice((*names, "none", "", "d"))
-            chosen = "" if pick.random() < 0.6 else f",[{','.join(pick.choice(('n', 'm', '7', 'k', 'p', 'q')) for _ in range(pick.randrange(1, 4)))}]"
+            labels = [pick.choice("nm7kpq") for _ in range(pick.randrange(1, 4))]
+            chosen = "" if pick.random() < 0.6 else f",[{','.join(labels)}]"
             quoted = to.replace("'", "\\'")
             rows.insert(pick.randrange(len(rows) + 1), f"include('{quoted}'{chosen}).")
         files[names[k].encode()] = "\n".join(rows).encode()
@@ -284,19 +286,20 @@ def include(pick: random.Random) -> Input:
 
 
 KEYS = ("process", "mate", "confront", "inst", "choose", "grow", "commands", "conflicts", "slice", "Commands", "grows", "%", "")
-NUMBERS = ("0", "1", "3", "200", "1000", "1001", "20000", "1000000", "1000001", "1000000000000", "1000000000001", "00", "01", "-1", "+1", "1 ", "1  2", "x")
-NUMBERS += ("18446744073709551615", "18446744073709551616", "99999999999999999999999999", "", "1e3", "0x1", "\u0661")
+NUMBERS = """0 1 3 200 1000 1001 20000 1000000 1000001 1000000000000 1000000000001 00 01 -1 +1 x 1e3 0x1 18446744073709551615
+    18446744073709551616 99999999999999999999999999""".split() + ["1 ", "1  2", "", "\u0661"]
+ENDS = ("",) * 10 + (" ", "  ", "\r", "\t", " \r", "\r ")
 
 
-def settings(pick: random.Random, begin: list[str]) -> bytes:
-    rows = list(begin)
+def settings(pick: random.Random, first: list[str]) -> bytes:
+    rows = list(first)
     for _ in range(pick.randrange(6)):
         key = pick.choice(KEYS[:6]) if pick.random() < 0.8 else pick.choice(KEYS)
         number = str(pick.choice((0, 1, 2, 30, 1000))) if pick.random() < 0.8 else pick.choice(NUMBERS)
         if key == "conflicts" and number.isascii() and number.strip().isdigit() and int(number) < 20000:
             number = "20000"
-        gap = pick.choice((" ",) * 12 + ("  ", "   ", "\t", "", "\v"))
-        rows.insert(pick.randrange(len(rows) + 1), pick.choice(("",) * 20 + (" ",)) + key + gap + number + pick.choice(("",) * 10 + (" ", "  ", "\r", "\t", " \r", "\r ")))
+        begin, gap, behind = pick.choice(("",) * 20 + (" ",)), pick.choice((" ",) * 12 + ("  ", "   ", "\t", "", "\v")), pick.choice(ENDS)
+        rows.insert(pick.randrange(len(rows) + 1), begin + key + gap + number + behind)
     data = pick.choice(("\n", "\n", "\n", "\n\n", "\r\n")).join(rows).encode() + pick.choice((b"\n", b"\n", b"", b"\r", b"\r\n"))
     return byte(pick, data) if pick.random() < 0.15 else data
 
@@ -317,22 +320,23 @@ def schedule(pick: random.Random) -> Input:
     return call("--schedule", "s", "p.p", s=data, p_p=small(pick))
 
 
-OPTIONS = ["--mode", "--schedule", "--tree", "--check", "--strict", "--models", "--same", "--demo", "--", "-", "--help", "-h", "--version", "--modes", "--Mode"]
-VALUES = ["p.p", "p.p", "m", "s", "t", "t", "none", "", "0", "1", "2", "3", "8", "9", "01", "+1", " 1", "1000", "1001", "10000", "10001", "-1", "4294967297"]
-VALUES += ["18446744073709551617", "x" * 4096, "x" * 4097, "a\nb", "a\tb", "\u00e9", "\u0085", "\u202e", b"\xff", b"p\x80", "d/p.p", ".", "/", "--p.p", "=", "\x7f", "p.p "]
-WORDS = ["p.p", "--mode m", "--mode=m", "--schedule s", "--schedule=s", "--tree 20", "--tree=1", "--check t", "--check=t", "--strict t", "--models 2", "--same", "--demo 3", "--"]
+OPTIONS = "--mode --schedule --tree --check --strict --models --same --demo -- - --help -h --version --modes --Mode".split()
+VALUES = "p.p p.p m s t t none 0 1 2 3 8 9 01 +1 1000 1001 10000 10001 -1 4294967297 18446744073709551617 d/p.p . / --p.p =".split()
+VALUES += ["", " 1", "x" * 4096, "x" * 4097, "a\nb", "a\tb", "\u00e9", "\u0085", "\u202e", b"\xff", b"p\x80", "\x7f", "p.p "]
+WORDS = ["p.p", "--mode m", "--mode=m", "--schedule s", "--schedule=s", "--tree 20", "--tree=1", "--check t", "--check=t", "--strict t"]
+WORDS += ["--models 2", "--same", "--demo 3", "--"]
 
 
 def line(pick: random.Random) -> Input:
     words: list = []
     for _ in range(pick.choice((0, 1, 1, 2, 2, 3, 4))):
         option, value = pick.choice(OPTIONS), pick.choice(VALUES)
-        shapes = (pick.choice(WORDS).split(), [value], [option, value], [option], [f"{option}={value}"] if isinstance(value, str) else [value])
-        words += pick.choice((shapes[0], *shapes))
+        joined = f"{option}={value}" if isinstance(value, str) else value
+        words += pick.choice((pick.choice(WORDS).split(), pick.choice(WORDS).split(), [value], [option, value], [option], [joined]))
     if pick.random() < 0.6:
         words.append("p.p")
-    files = {"m": "commands 9\n", "s": "slice 1\n", "t": (TOP / "tests" / "data" / "all.txt").read_bytes(), "p_p": (TOP / "tests" / "data" / "all.p").read_bytes()}
-    return call(*words, **files)
+    data = TOP / "tests" / "data"
+    return call(*words, m="commands 9\n", s="slice 1\n", t=(data / "all.txt").read_bytes(), p_p=(data / "all.p").read_bytes())
 
 
 def same(pick: random.Random) -> Input:
@@ -345,7 +349,8 @@ def same(pick: random.Random) -> Input:
         right = f"( ^ [E: {maker.shown(type[0])}] : ( {right} @ E ) )"
     if pick.random() < 0.5:
         right = f"( ( ^ [R: {maker.shown(type)}] : R ) @ {right} )"
-    rows = [row for row in maker.lines if ",conjecture," not in row] + [f"thf(c,conjecture,( {left} {pick.choice(('=', '=', '!='))} {right} ))."]
+    rows = [row for row in maker.lines if ",conjecture," not in row]
+    rows.append(f"thf(c,conjecture,( {left} {pick.choice(('=', '=', '!='))} {right} )).")
     return call("--same", "p.p", p_p="\n".join(rows))
 
 
@@ -355,7 +360,8 @@ def models(pick: random.Random) -> Input:
 
 def tree(pick: random.Random) -> Input:
     first = ["--mode", "m"] if pick.random() < 0.9 else []
-    return call(*first, "--tree", pick.choice((1, 3, 10, 50, 1000)), "p.p", m=mode(pick, 100), p_p=Maker(pick, pick.choice((1, 2))).problem(3, 3))
+    text = Maker(pick, pick.choice((1, 2))).problem(3, 3)
+    return call(*first, "--tree", pick.choice((1, 3, 10, 50, 1000)), "p.p", m=mode(pick, 100), p_p=text)
 
 
 def definition(pick: random.Random) -> Input:
@@ -367,16 +373,20 @@ def definition(pick: random.Random) -> Input:
         name, type = pick.choice(maker.names)
         left = name if pick.random() < 0.9 else maker.term(type, [], 2)
         sign = pick.choice(("=", "<=>")) if type == "$o" else "="
-        maker.state(pick.choice(("definition", "definition", "definition", "axiom")), f"( {left} {sign} {maker.term(type, [], pick.choice((1, 2, 3)))} )")
+        right = maker.term(type, [], pick.choice((1, 2, 3)))
+        maker.state(pick.choice(("definition", "definition", "definition", "axiom")), f"( {left} {sign} {right} )")
     maker.problem(2, 3)
     return call("--mode", "m", "p.p", m=mode(pick, 100), p_p="\n".join(maker.lines))
+
+
+OPENED = ["( ?? @ ( ^ [X: $i] : ", "( !! @ ( ^ [X: $i > $o] : ", "( ~ ( ", "( ( ", "( ! [X: $o] : ( ", "( ? [X: $i, Y: $i > $i] : ( "]
+OPENED += ["( p | ( ", "( p => ( "]
 
 
 def nested(pick: random.Random) -> Input:
     """Quantifiers, parentheses, types and chains within one another, mostly less deep than 512 and sometimes a little deeper."""
     deep = pick.choice((2, 5, 20, 60, 120)) if pick.random() < 0.7 else pick.randrange(500, 516)
-    ways = ("( ?? @ ( ^ [X: $i] : ", "( !! @ ( ^ [X: $i > $o] : ", "( ~ ( ", "( ( ", "( ! [X: $o] : ( ", "( ? [X: $i, Y: $i > $i] : ( ", "( p | ( ", "( p => ( ")
-    chosen = [pick.choice(ways) for _ in range(pick.choice((1, 1, 2, 3)))]
+    chosen = [pick.choice(OPENED) for _ in range(pick.choice((1, 1, 2, 3)))]
     opened = [pick.choice(chosen) for _ in range(max(1, deep // 2))]
     core = pick.choice(("p", "$false", "( p & ( q @ c ) )", "( ( ^ [Z: $i] : Z ) = ( ^ [Z: $i] : Z ) )", " & ".join(["p"] * deep)))
     head = f"thf(c,type,c: $i).\nthf(p,type,p: $o).\nthf(q,type,q: {'$i > ' * pick.choice((1, 1, 1, deep))}$o).\n"
@@ -387,5 +397,6 @@ def nested(pick: random.Random) -> Input:
 
 
 # Each kind, with its share.
-KINDS = {"text": (text, 20), "token": (tokens, 15), "byte": (bytes_, 15), "problem": (problem, 12), "line": (line, 8), "mode": (mode_file, 7), "schedule": (schedule, 6)}
-KINDS |= {"same": (same, 4), "nested": (nested, 3), "include": (include, 4), "definition": (definition, 3), "models": (models, 2), "tree": (tree, 3)}
+KINDS = {"text": (text, 20), "token": (tokens, 15), "byte": (bytes_, 15), "problem": (problem, 12), "line": (line, 8)}
+KINDS |= {"mode": (mode_file, 7), "schedule": (schedule, 6), "same": (same, 4), "nested": (nested, 3), "include": (include, 4), "models": (models, 2)}
+KINDS |= {"definition": (definition, 3), "tree": (tree, 3)}
