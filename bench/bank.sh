@@ -1,8 +1,8 @@
 #!/usr/bin/env bash
 # Times the bank and the normaliser in the built program test_bank: bench/bank.sh
-# A million terms come into a bank, beside as many keys of 56 bytes that come into a HashMap of std in plain Rust. The Church numeral of 5 to the
-# power of 5 is worked out over a bank and as a whole tree, 200 times each. What the program takes without a row is taken off. Each line: the
-# milliseconds of both, the least of five tries, and their ratio.
+# A million terms come into a bank, beside as many keys of 56 bytes that come into a HashMap of std in plain Rust. The Church numeral of 5
+# to the power of 5 is worked out over a bank and as a whole tree, 200 times each. What the program takes without a row is taken off. Each
+# line: the milliseconds of both, the least of five tries, and their ratio.
 set -eu
 top=$(dirname -- "$(dirname -- "$(readlink -f -- "$0")")")
 folder=$(mktemp -d)

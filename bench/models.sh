@@ -1,7 +1,7 @@
 #!/usr/bin/env bash
 # Times the search for finite models: bench/models.sh. For each problem the bound, the processor time of the whole call in milliseconds, the
-# least of five calls, and the last line of the report. Where the number of nodes that the search evaluates is known, it says how many that is
-# a second. SATALLAX names another program than out/satallax.
+# least of five calls, and the last line of the report. Where the number of nodes that the search evaluates is known, it says how many that
+# is a second. SATALLAX names another program than out/satallax.
 set -eu
 top=$(dirname -- "$(dirname -- "$(readlink -f -- "$0")")")
 program=$(readlink -f -- "${SATALLAX:-$top/out/satallax}")

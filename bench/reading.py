@@ -1,13 +1,13 @@
 #!/usr/bin/env python3
-"""Writes a file of 16 MiB of typed statements in the layout of the TPTP: reading.py FILE DECLARATIONS. After three types and so many constants
-come axioms over them. The last statement is ill, so that a program ends when it has read and typed all before it."""
+"""Writes a file of 16 MiB of typed statements in the layout of the TPTP: reading.py FILE DECLARATIONS. After three types and so many
+constants come axioms over them. The last statement has no type, so that a program ends when it has read and typed all before it."""
 import random
 import sys
 
 path, declarations = sys.argv[1], int(sys.argv[2])
 SIZE = 16 * 1024 * 1024
-WORDS = """plus times minus member insert union image append list set nat int real map filter fold group ring field order lattice finite closed
-open bound limit sum prod power""".split()
+WORDS = """plus times minus member insert union image append list set nat int real map filter fold group ring field order lattice finite
+closed open bound limit sum prod power""".split()
 LAST = "thf(last,axiom,\n    unknown_name ).\n"
 random.seed(7)
 pick = random.choice

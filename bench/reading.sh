@@ -1,7 +1,8 @@
 #!/usr/bin/env bash
-# Compares a program that reads and types a problem with a plain fold over the bytes of its file (`h * 31 + b`, built by rustc): bench/reading.sh
-# PROGRAM, with 16 MiB of typed statements in the layout of the TPTP. Each line: how many constants are declared, the seconds (user and system)
-# of both, the least of ten runs each by turns, and their ratio. A run of the fold makes fifty of it, so that its seconds are told as finely.
+# Compares a program that reads and types a problem with a plain fold over the bytes of its file (`h * 31 + b`, built by rustc):
+# bench/reading.sh PROGRAM, with 16 MiB of typed statements in the layout of the TPTP. Each line: how many constants are declared, the
+# seconds (user and system) of both, the least of ten runs each by turns, and their ratio. A run of the fold makes fifty of it, so that its
+# seconds are told as finely.
 set -eu
 here=$(dirname -- "$(readlink -f -- "$0")")
 program=${1:?a program}

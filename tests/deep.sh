@@ -5,18 +5,18 @@
 set -eu
 here=$(dirname -- "$(readlink -f -- "$0")")
 program=$(readlink -f -- "${SATALLAX:-$here/../out/satallax}")
-folder=${1:-}
-if [ -z "$folder" ]; then
-  folder=$(mktemp -d)
-  trap 'rm -rf -- "$folder"' EXIT
-  python3 "$here/deep.py" "$folder"
-fi
+room=$(mktemp -d)
+trap 'rm -rf -- "$room"' EXIT
+folder=${1:-$room/inputs}
+[ $# -gt 0 ] || python3 "$here/deep.py" "$folder"
 cd -- "$folder"
+ulimit -s 8192
+ulimit -v 4000000
 wrong=0
 while read -r -a words; do
   status=0
-  told=$( (ulimit -s 8192; ulimit -v 4000000; command time -f '%U s %M KB' timeout 60 "$program" "${words[@]}") 2>&1 >/dev/null | tail -n 1) || true
-  (ulimit -s 8192; ulimit -v 4000000; timeout 60 "$program" "${words[@]}") >/dev/null 2>&1 || status=$?
+  command time -o "$room/times" -f '%U s %M KB' timeout 60 "$program" "${words[@]}" >/dev/null 2>&1 || status=$?
+  told=$(tail -n 1 "$room/times")
   case $status in
     [0-8] | 1[0-57] | 18 | 20 | 21 | 30) ;;
     124) told='no answer in 60 s' ;;

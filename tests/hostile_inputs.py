@@ -214,8 +214,8 @@ def bytes_(pick: random.Random) -> Input:
 
 
 TEXT_TOKENS = b"""0 1 2 7 x [] w0 w1 $w0 #0 #1 + - False Close Refl Imp+ Imp- Bool+ Bool- Fun+ Fun- All+ All- Mat Dec Con Cho Des Cut $f
-    $not $imp $all[$i] $eq[$i] $eq[$o] $eps[$i] $the[$i] ^$i. ($i>$o) $o $i ' 00 4294967295 4294967296 18446744073709551615 18446744073709551616
-    ( ) , ; :""".split() + [b"version 2", b"d p", b"\n", b" ", b"\r\n"]
+    $not $imp $all[$i] $eq[$i] $eq[$o] $eps[$i] $the[$i] ^$i. ($i>$o) $o $i ' 00 4294967295 4294967296
+    18446744073709551615 18446744073709551616 ( ) , ; :""".split() + [b"version 2", b"d p", b"\n", b" ", b"\r\n"]
 
 # What may stand in place of one another without a change of form: numbers, rules, signs, whole literals, terms of one head, types.
 ALIKE = [rb"\d+", rb"(?<=: )[A-Z][a-z]+[+-]?(?=\()", rb"(?<=[\[,])[+-]", rb"(?<=[\[,])[+-][^,\]]+", rb"\$w\d+|\b[a-z]\w*\b", rb"#\d+"]
@@ -398,5 +398,5 @@ def nested(pick: random.Random) -> Input:
 
 # Each kind, with its share.
 KINDS = {"text": (text, 20), "token": (tokens, 15), "byte": (bytes_, 15), "problem": (problem, 12), "line": (line, 8)}
-KINDS |= {"mode": (mode_file, 7), "schedule": (schedule, 6), "same": (same, 4), "nested": (nested, 3), "include": (include, 4), "models": (models, 2)}
-KINDS |= {"definition": (definition, 3), "tree": (tree, 3)}
+KINDS |= {"mode": (mode_file, 7), "schedule": (schedule, 6), "same": (same, 4), "nested": (nested, 3), "include": (include, 4)}
+KINDS |= {"models": (models, 2), "definition": (definition, 3), "tree": (tree, 3)}

@@ -1,7 +1,7 @@
 #!/usr/bin/env bash
-# Runs the built program over the examples and the calls of tests/data with a stack of 8 MB and address spaces of 1, 2 and 4 GB, and tells each
-# exit status that isn't one of docs/REPORTS.md: tests/limits.sh [FOLDER], where FOLDER has further problems. Its last line counts the runs. Ends with 1
-# where such a status came.
+# Runs the built program over the examples and the calls of tests/data with a stack of 8 MB and address spaces of 1, 2 and 4 GB, and tells
+# each exit status that isn't one of docs/REPORTS.md: tests/limits.sh [FOLDER], where FOLDER has further problems. Its last line counts the
+# runs. Ends with 1 where such a status came.
 set -eu
 here=$(dirname -- "$(readlink -f -- "$0")")
 top=$here/..

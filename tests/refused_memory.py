@@ -3,13 +3,13 @@
 
     tests/refused_memory.py [CALLS]
 
-CALLS has the words of a call a line, and stands in the folder where the files are that they name; without it, it is tests/data/calls. For each
-call, and for each allocation that it makes, there is a run in which that allocation is refused and those after it are given. Each is to answer
-that memory ran out, or what the call answers where none is refused, to the byte and with the same status. Ends with 1 where a run ends
-otherwise, and with 2 where nothing could be tried.
+CALLS has the words of a call a line, and stands in the folder where the files are that they name; without it, it is tests/data/calls. For
+each call, and for each allocation that it makes, there is a run in which that allocation is refused and those after it are given. Each is
+to answer that memory ran out, or what the call answers where none is refused, to the byte and with the same status. Ends with 1 where a run
+ends otherwise, and with 2 where nothing could be tried.
 
-The program is out/satallax, or the one that SATALLAX names. It is run with tests/refuse.c loaded before it, which CC compiles, or cc. That needs
-Linux with the C library of GNU.
+The program is out/satallax, or the one that SATALLAX names. It is run with tests/refuse.c loaded before it, which CC compiles, or cc. That
+needs Linux with the C library of GNU.
 """
 import os
 import shlex
@@ -70,8 +70,10 @@ def run(words: list[str], folder: Path, library: Path, step: int, rest: int) -> 
     """Returns how the call itself ends, and how those end in which an allocation with this rest is refused."""
     with tempfile.NamedTemporaryFile() as results:
         environment = {"LD_PRELOAD": str(library), "REFUSE_RESULTS": results.name, "REFUSE_STEP": str(step), "REFUSE_REST": str(rest)}
-        done = subprocess.run([str(PROGRAM), *words], cwd=folder, env=environment, stdin=subprocess.DEVNULL, stdout=subprocess.PIPE, check=False)
-        return End(done.returncode if done.returncode >= 0 else 256 - done.returncode, done.stdout), read_ends(Path(results.name).read_bytes())
+        streams = {"stdin": subprocess.DEVNULL, "stdout": subprocess.PIPE}
+        done = subprocess.run([str(PROGRAM), *words], cwd=folder, env=environment, **streams, check=False)
+        end = End(done.returncode if done.returncode >= 0 else 256 - done.returncode, done.stdout)
+        return end, read_ends(Path(results.name).read_bytes())
 
 
 def read_ends(told: bytes) -> Ends:
@@ -114,8 +116,8 @@ def refused(words: list[str], folder: Path, library: Path) -> bool:
     same = ends.counts.get(whole, 0)
     others = [end for end in ends.counts if end != whole and not is_no_memory(end)]
     tried = sum(ends.counts.values())
-    took = f"{time.monotonic() - begun:.0f} s"
-    print(f"{shlex.join(words)}: {ends.allocations:,} allocations; refused: {memory:,} times no memory, {same:,} times status {whole.status} as ever; {took}")
+    came = f"{memory:,} times no memory, {same:,} times status {whole.status} as ever"
+    print(f"{shlex.join(words)}: {ends.allocations:,} allocations; refused: {came}; {time.monotonic() - begun:.0f} s")
     for end in others:
         print(f"  {ends.counts[end]} times, first at allocation {ends.first[end]}: {shown(end)}")
     if tried != ends.allocations:

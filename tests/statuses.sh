@@ -1,7 +1,7 @@
 #!/usr/bin/env bash
-# Runs the built program to the exit statuses that the system brings about: words that aren't text (18), an output that takes nothing (21), and
-# out of memory (30), by a limit that is set from outside. No case has 18 or 30: files in memory always have names that are text, and memory
-# doesn't run out there. Ends with 1 where another status comes.
+# Runs the built program to the exit statuses that the system brings about: words that aren't text (18), an output that takes nothing (21),
+# and out of memory (30), by a limit that is set from outside. No case has 18 or 30: files in memory always have names that are text, and
+# memory doesn't run out there. Ends with 1 where another status comes.
 set -eu
 here=$(dirname -- "$(readlink -f -- "$0")")
 program=$(readlink -f -- "${SATALLAX:-$here/../out/satallax}")

@@ -58,10 +58,9 @@ def everything():
     class Disk(dict):
         def __contains__(self, name): return dict.__contains__(self, name) or os.path.exists(name)
         def __missing__(self, name): return open(name, 'rb').read()
-    runs = [[p] for p in sorted(os.listdir('examples')) if p.endswith('.p')]
-    runs += [['--mode', 'modes/' + m, p] for m in sorted(os.listdir('modes')) for [p] in runs]
-    for words in runs:
-        words[-1] = 'examples/' + words[-1] if '/' not in words[-1] else words[-1]
+    examples = ['examples/' + p for p in sorted(os.listdir('examples')) if p.endswith('.p')]
+    ways = [['--' + f.rsplit('.', 1)[1], 'modes/' + f] for f in sorted(os.listdir('modes')) if f.endswith(('.mode', '.schedule'))]
+    for words in [way + [p] for way in [[], *ways] for p in examples]:
         if not program: counts['left out'] += 1
         else:
             text = prove(words, top)
