@@ -1,8 +1,8 @@
 #!/usr/bin/env python3
-"""Compares tools/check_text.py with what the cases and the examples say. Each text that a case checks is accepted or refused by both, at the
-same line and with the same word. Each text that a case has in a report is accepted. With a program (SATALLAX, or out/satallax where it is
-built) the texts of `proof` cases and of the examples, by each mode, are taken from it and are to be accepted. Without one they are left out,
-and the last line says how many. Ends with 1 where there is a difference."""
+"""Compares tools/check_text.py with what the cases and the examples say. Each text that a case checks is accepted or refused by both, at
+the same line and with the same word. Each text that a case has in a report is accepted. With a program (SATALLAX, or out/satallax where it
+is built) the texts of `proof` cases and of the examples, by each mode and schedule, are taken from it and are to be accepted. Without one
+they are left out, and the last line says how many. Ends with 1 where there is a difference."""
 import os, re, subprocess, sys, tempfile
 sys.dont_write_bytecode = True
 top = os.path.dirname(os.path.dirname(os.path.realpath(__file__)))
