@@ -90,7 +90,8 @@ def tried(other: Path, of: Input) -> tuple[str, End, End | None]:
         return "alike", own, second
     Path("written").write_bytes(own.written)
     word = b"--strict" if re.search(rb"(?m)^% tree \d", own.written) else b"--check"
-    accepted = run(other, Input([word, b"written", b"--", of.words[-1]]))
+    name = own.written.partition(REFUTATION)[2].partition(b"\n")[0]
+    accepted = run(other, Input([word, b"written", b"--", name]))
     return ("alike, its text accepted" if accepted.status == 0 else "different"), own, accepted
 
 
