@@ -125,7 +125,10 @@ def main() -> int:
     ends: Counter[tuple[str, str]] = Counter()
     begun = time.monotonic()
     with tempfile.TemporaryDirectory(dir="/dev/shm" if os.path.isdir("/dev/shm") else None) as room:
-        os.chdir(room)
+        # (some inputs name files by ../here)
+        here = Path(room) / "here"
+        here.mkdir()
+        os.chdir(here)
         for kind in kinds:
             make, share = KINDS[kind]
             for index in range(-(-given.count * share // sum(KINDS[k][1] for k in kinds))):
