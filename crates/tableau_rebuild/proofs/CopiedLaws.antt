@@ -1,5 +1,5 @@
 -- A copy of the instance from which a clause comes.
-use Rattle.std.proofs.Common.{◌≡◌, ℕ, List, Some, Bool, true, false, map, slice_get, sym, ap, ◌∙◌, true≢false}
+use Rattle.std.proofs.Common.{◌≡◌, ℕ, List, Some, Bool, true, false, slice_get, sym, ap, ◌∙◌, true≢false}
 use Rattle.std.proofs.lemmas.Option.{slice_get-map, same_Some}
 use Rattle.std.specs.Option.{option_map}
 use Rattle.term_bank.specs.Content.{Content}

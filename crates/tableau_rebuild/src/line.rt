@@ -223,9 +223,7 @@ pub(crate) fn line_of(
         Draft::Clause(n) => match steps.origin(n) {
             Origin::Instance(k) => {
                 let instance = steps.instance(k)?;
-                Ok(instance_line(
-                    alloc, bank, atoms, &instance, branch, literals, pool,
-                )?)
+                Ok(instance_line(alloc, bank, atoms, &instance, branch, literals, pool)?)
             }
             Origin::Start => unreachable!(),
         },

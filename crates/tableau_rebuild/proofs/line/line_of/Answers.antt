@@ -1,4 +1,4 @@
-use Rattle.std.proofs.Common.{◌≡◌, List, sym, ap, subst, ◌∙◌}
+use Rattle.std.proofs.Common.{◌≡◌, sym, ap, subst, ◌∙◌}
 use Rattle.literal_map.specs.declared.instance.Instance.{Instance as BankInstance}
 use Rattle.tableau_rebuild.specs.Conditions.{IsGoodUse}
 use Rattle.tableau_rebuild.specs.Tables.{atoms_at, the_instance}
@@ -34,6 +34,6 @@ returns-in_ok-instance_line-in-Instance-clause-line c =
     let line = c.in_ok-instance_line-in-Instance.field-0 in
     subst (λ d. IsLineBy b atoms t c.args.numbers.now branch d line) (sym c.in-Clause.is)
     (λ i from.
-        c.in_ok-instance_line-in-Instance.ensures.line
-        ∙ ap (λ (x : BankInstance). instance_by (atoms_at b.terms atoms) branch (the_instance b.terms atoms x))
-        (copied_instance b atoms t c.in-Clause.n i c.in-Instance.k copy from c.in-Instance.ensures c.in_ok-instance-in-Instance.ensures))
+    c.in_ok-instance_line-in-Instance.ensures.line
+    ∙ ap (λ (x : BankInstance). instance_by (atoms_at b.terms atoms) branch (the_instance b.terms atoms x))
+    (copied_instance b atoms t c.in-Clause.n i c.in-Instance.k copy from c.in-Instance.ensures c.in_ok-instance-in-Instance.ensures))

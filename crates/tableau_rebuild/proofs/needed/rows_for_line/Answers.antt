@@ -1,4 +1,4 @@
-use Rattle.std.proofs.Common.{◌≡◌, ℕ, List, max, sym, ap, ap₂, subst, ◌∙◌}
+use Rattle.std.proofs.Common.{◌≡◌, max, sym, ap, ap₂, subst, ◌∙◌}
 use Rattle.literal_map.specs.declared.instance.Instance.{Instance as BankInstance}
 use Rattle.tableau_calculus.specs.declared.refutation.Line.{Line}
 use Rattle.witness_names.specs.Rows.{rows_of}
