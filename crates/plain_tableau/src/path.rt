@@ -43,11 +43,7 @@ fn holds_one(branch: &IndexSet<SatLit>, lists: &[LitList]) -> bool
 }
 
 /// Whether the instance with a number is due on the branch.
-fn is_due(
-    steps: &StepTable,
-    branch: &IndexSet<SatLit>,
-    k: usize,
-) -> Result<bool, AllocError>
+fn is_due(steps: &StepTable, branch: &IndexSet<SatLit>, k: usize) -> Result<bool, AllocError>
     requires { k < length (the_instances steps.now) }
     ensures { IfOk result (λ b. b ≡ is_due_at steps.now branch.now.keys k) }
 {

@@ -1,4 +1,5 @@
-use Rattle.std.proofs.Common.{◌≡◌, ◌<◌, ◌≤◌, ◌+◌, ◌++◌, ℕ, true, false, List, [], ◌∷◌, length, reverse, get_or, Some, slice_get, refl, sym, ap, ◌∙◌, subst, length-append, arith}
+use Rattle.std.proofs.lemmas.Option.{slice_get_within}
+use Rattle.std.proofs.Common.{◌≡◌, ◌<◌, ◌≤◌, ◌+◌, ◌++◌, ℕ, true, false, List, [], ◌∷◌, length, reverse, get_or, Some, slice_get, slice_index_or, refl, sym, ap, ◌∙◌, subst, length-append, arith}
 use Rattle.sat_base.specs.declared.literal.SatLit.{SatLit}
 use Rattle.sat_base.specs.Literal.{IsOver}
 use Rattle.stt_core.specs.Lambda.{Lambda}
@@ -101,3 +102,8 @@ finish-requires-clause-full c = λ i there.
     let is = frame_instance c.args.bank.now.terms c.args.atoms.now c.args.steps.now c.args.used.now c.loop-k.frame.place i c.in_ok-instance.instance there (ap (λ p. slice_get (the_instances c.args.steps.now) (get_or c.args.used.now p 0)) c.loop-k.invariant.place ∙ c.in_ok-instance.ensures) in
     let count : length i.alternatives ≡ length c.in_ok-instance.instance.alternatives = ap (λ (x : TreeInstance SatLit). length x.alternatives) is in
     omega (arith, count, c.loop-k.invariant.count, c.loop-k-test.false, c.len-k-end.ensures)
+
+pub enter-requires-clause-within : goal.enter-requires-clause-within
+enter-requires-clause-within c = λ k d h.
+    let usable = c.requires.used k d h in
+    slice_get_within (the_instances c.args.steps.now) (slice_index_or c.args.used.now k d) usable.instance usable.there
