@@ -43,13 +43,14 @@ fn holds_one(branch: &IndexSet<SatLit>, lists: &[LitList]) -> bool
 }
 
 /// Whether the instance with a number is due on the branch.
-fn is_due(steps: &StepTable, branch: &IndexSet<SatLit>, k: usize) -> bool
+fn is_due(steps: &StepTable, branch: &IndexSet<SatLit>, k: usize) -> Result<bool, AllocError>
     requires { k < length (the_instances steps.now) }
-    ensures { result ≡ is_due_at steps.now branch.now.keys k }
+    ensures { IfOk result (λ b. b ≡ is_due_at steps.now branch.now.keys k) }
 {
-    let instance = steps.instance(k);
-    holds_all(branch, instance.principals.as_slice())
-        && !holds_one(branch, instance.alternatives.as_slice())
+    let instance = steps.instance(k)?;
+    let is_due = holds_all(branch, instance.principals.as_slice())
+        && !holds_one(branch, instance.alternatives.as_slice());
+    Ok(is_due)
 }
 
 /// Puts the places of instances in, or takes them out, by whether these are due on the branch.
@@ -67,7 +68,7 @@ fn refresh(
 {
     for i in 0..places.len() {
         let place = places[i];
-        let is_due = is_due(steps, branch, used[place]);
+        let is_due = is_due(steps, branch, used[place])?;
         due.set(place, is_due)?;
     }
     Ok(())
@@ -100,8 +101,9 @@ fn note_all(
     ensures inside { OnOk result (IsInside used.now due.new) }
 {
     for u in 0..used.len() {
-        note(noted, steps.instance(used[u]), u)?;
-        let is_due = is_due(steps, branch, used[u]);
+        let instance = steps.instance(used[u])?;
+        note(noted, &instance, u)?;
+        let is_due = is_due(steps, branch, used[u])?;
         due.set(u, is_due)?;
     }
     Ok(())

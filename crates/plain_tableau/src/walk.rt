@@ -93,17 +93,20 @@ impl Walk {
         ensures frames { OnOk result (length self.new.frames.items ≡ length self.old.frames.items) }
         ensures stands { OnOk result (WalkStands (the_used bank.now.terms atoms.now steps.now used.now) nodes start.now (atoms_at bank.now.terms atoms.now) made (reverse self.new.frames.items) self.new.path.literals.keys self.new.writing.lines) }
     {
-        let instance = steps.instance(used[frame.place]);
+        let place = frame.place;
         let Frame { children, .. } = frame;
-        let number = self.writing.write(
-            alloc,
-            bank,
-            atoms,
-            witnesses,
-            instance,
-            self.path.as_slice(),
-            children,
-        )?;
+        let number = {
+            let instance = steps.instance(used[place])?;
+            self.writing.write(
+                alloc,
+                bank,
+                atoms,
+                witnesses,
+                &instance,
+                self.path.as_slice(),
+                children,
+            )?
+        };
         match self.frames.pop() {
             None => Ok(()),
             Some(mut parent) => {
@@ -163,7 +166,7 @@ impl Walk {
         ensures ahead { IfOk result (λ b. b ≡ true → IsAhead (the_used bank.now.terms atoms.now steps.now used.now) nodes start.now (atoms_at bank.now.terms atoms.now) made (reverse self.new.frames.items) self.new.path.literals.keys self.new.writing.lines) }
         ensures stands { IfOk result (λ b. b ≡ false → WalkStands (the_used bank.now.terms atoms.now steps.now used.now) nodes start.now (atoms_at bank.now.terms atoms.now) made (reverse self.new.frames.items) self.new.path.literals.keys self.new.writing.lines) }
     {
-        let instance = steps.instance(used[frame.place]);
+        let instance = steps.instance(used[frame.place])?;
         for k in frame.children.len()..instance.alternatives.len() {
             let lits = instance.alternatives.at(k).as_slice();
             if !self.path.clashes(lits) {

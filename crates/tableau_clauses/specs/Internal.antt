@@ -1,4 +1,5 @@
 -- Means of proof: what private contracts and proofs speak of.
 pub mod Chosen
 pub mod Keys
+pub mod Spans
 pub mod Stepping

@@ -2,8 +2,10 @@
 #![tactic(auto)]
 
 mod choice;
+mod instances;
 mod key;
 mod law;
+mod lists;
 mod origin;
 mod steps;
 mod table;

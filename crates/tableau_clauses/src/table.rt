@@ -8,6 +8,7 @@ ghost use Rattle.tableau_clauses.specs.Internal.Stepping.{with_steps, Adds};
 ghost use Rattle.tableau_clauses.specs.Table.{the_clauses, the_origins, the_instances, EachComes, StandInOrder};
 
 use crate::choice::clauses_of;
+use crate::instances::Instances;
 use crate::origin::Origin;
 use crate::steps::Steps;
 use literal_map::Instance;
@@ -26,7 +27,7 @@ pub struct NewClauses {
 #[derive(Drop)]
 pub struct StepTable {
     steps: Steps,
-    instances: Vec<Instance>,
+    instances: Instances,
     alloc: Global,
 }
 
@@ -35,11 +36,11 @@ impl Model for StepTable {
 
     ghost Value = { Table };
 
-    ghost view = { λ t. (t.steps, t.instances.items) };
+    ghost view = { λ t. (t.steps, t.instances) };
 
     ghost use Rattle.tableau_clauses.specs.Internal.Stepping.{IsRightTable};
 
-    ghost invariant = { λ t. IsRightTable (t.steps, t.instances.items) };
+    ghost invariant = { λ t. IsRightTable (t.steps, t.instances) };
 }
 
 impl StepTable {
@@ -48,7 +49,7 @@ impl StepTable {
     {
         StepTable {
             steps: Steps::new(alloc),
-            instances: Vec::new(alloc),
+            instances: Instances::new(alloc),
             alloc,
         }
     }
@@ -90,12 +91,12 @@ impl StepTable {
         self.steps.origin(n)
     }
 
-    /// The instance with this number.
-    pub fn instance(&self, k: usize) -> &Instance
+    /// A copy of the instance with this number.
+    pub fn instance(&self, k: usize) -> Result<Instance, AllocError>
         requires { k < length (the_instances self.now) }
-        ensures { slice_get (the_instances self.now) k ≡ Some result.now }
+        ensures { IfOk result (λ instance. slice_get (the_instances self.now) k ≡ Some instance) }
     {
-        &self.instances[k]
+        self.instances.get(k)
     }
 
     /// Adds a start unit: false where it is there.
@@ -122,7 +123,7 @@ impl StepTable {
     {
         let start = self.len();
         let clauses = clauses_of(self.alloc, &instance)?;
-        match add_unless_refused(&mut self.steps, &mut self.instances, clauses, instance) {
+        match add_unless_refused(&mut self.steps, &mut self.instances, clauses, &instance) {
             Ok(()) => Ok(NewClauses {
                 start,
                 end: self.len(),
@@ -138,14 +139,14 @@ impl StepTable {
 /// Adds the clauses that aren't there yet, and keeps the instance. Where it is refused, some of the clauses may be there.
 fn add_unless_refused(
     steps: &mut Steps,
-    instances: &mut Vec<Instance>,
+    instances: &mut Instances,
     clauses: Vec<Clause>,
-    instance: Instance,
+    instance: &Instance,
 ) -> Result<(), AllocError>
-    ensures steps { OnOk result (steps.new ≡ with_steps (From (length instances.old.items)) steps.old clauses.items) }
-    ensures adds { Adds (From (length instances.old.items)) steps.old steps.new }
-    ensures instances { OnOk result (instances.new.items ≡ instances.old.items ++ instance ∷ []) }
-    ensures err { OnErr result (instances.new.items ≡ instances.old.items) }
+    ensures steps { OnOk result (steps.new ≡ with_steps (From (length instances.old)) steps.old clauses.items) }
+    ensures adds { Adds (From (length instances.old)) steps.old steps.new }
+    ensures instances { OnOk result (instances.new ≡ instances.old ++ instance.now ∷ []) }
+    ensures err { OnErr result (instances.new ≡ instances.old) }
 {
     steps.add_all(clauses, Origin::Instance(instances.len()))?;
     instances.push(instance)?;

@@ -14,3 +14,4 @@ pub mod OverLaws
 pub mod GivenLaws
 pub mod LastLaws
 pub mod FlagLaws
+pub mod CopiedLaws

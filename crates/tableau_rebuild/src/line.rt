@@ -221,15 +221,10 @@ pub(crate) fn line_of(
     let literals = lits_of(alloc, bank, atoms, branch, pool)?;
     match draft {
         Draft::Clause(n) => match steps.origin(n) {
-            Origin::Instance(k) => Ok(instance_line(
-                alloc,
-                bank,
-                atoms,
-                steps.instance(k),
-                branch,
-                literals,
-                pool,
-            )?),
+            Origin::Instance(k) => {
+                let instance = steps.instance(k)?;
+                Ok(instance_line(alloc, bank, atoms, &instance, branch, literals, pool)?)
+            }
             Origin::Start => unreachable!(),
         },
         Draft::Close(_, _, _) => Ok(SharedLine {

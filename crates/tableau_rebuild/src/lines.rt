@@ -119,7 +119,7 @@ impl Writing {
                 numbers,
                 &mut self.pool,
             )?;
-            let rows = rows_for_line(bank, atoms, witnesses, steps, draft, branch.as_slice());
+            let rows = rows_for_line(bank, atoms, witnesses, steps, draft, branch.as_slice())?;
             self.written.rows = self.written.rows.max(rows);
             line_in_range(&line);
             self.written.lines.push(line)?;

@@ -1,5 +1,5 @@
 //! How many rows of the witness table lines need.
-ghost use Rattle.std.specs.Prelude.{◌≡◌, ◌<◌, ◌^◌, ℕ, List, max, length, map, Some, IsSome, IfSome, All, slice_get, unwrap_or};
+ghost use Rattle.std.specs.Prelude.{◌≡◌, ◌<◌, ◌^◌, ℕ, List, max, length, map, Some, IsSome, IfSome, IfOk, All, slice_get, unwrap_or};
 ghost use Rattle.std.specs.List.{position_or_len};
 ghost use Rattle.stt_core.specs.SameTerm.{same_term};
 ghost use Rattle.stt_core.specs.View.{the_head};
@@ -23,6 +23,7 @@ use crate::draft::Draft;
 use crate::literals::position;
 use literal_map::{BankUse, Instance, LitList, LitTable, RuleKind};
 use sat_base::SatLit;
+use std::alloc::AllocError;
 use stt_core::Head;
 use tableau_clauses::{Origin, StepTable};
 use term_bank::{Bank, Id, Node, equal_ids_for_equal_terms};
@@ -232,32 +233,30 @@ pub(crate) fn rows_for_line(
     steps: &StepTable,
     draft: Draft,
     branch: &[SatLit],
-) -> usize
+) -> Result<usize, AllocError>
     requires atoms { All (IsAtom bank.now) atoms.now }
     requires numbered { IsOver (length atoms.now) branch.now }
     requires rows { AreRows bank.now witnesses.now }
     requires parts { HasParts bank.now atoms.now steps.now draft }
-    ensures { (numbers : List ℕ) (line : Line) → IsLineBy bank.now atoms.now steps.now numbers branch.now draft line → result ≡ max (rows_for_all line.branch) (rows_for_rule (rows_of bank.now.terms witnesses.now) line.branch line.rule) }
+    ensures { IfOk result (λ n. (numbers : List ℕ) (line : Line) → IsLineBy bank.now atoms.now steps.now numbers branch.now draft line → n ≡ max (rows_for_all line.branch) (rows_for_rule (rows_of bank.now.terms witnesses.now) line.branch line.rule)) }
 {
     let rows = rows_for_branch(bank, atoms, branch);
     match draft {
         Draft::Clause(n) => match steps.origin(n) {
-            Origin::Instance(k) => rows.max(rows_for_instance(
-                bank,
-                atoms,
-                witnesses,
-                steps.instance(k),
-                branch,
-            )),
+            Origin::Instance(k) => {
+                let instance = steps.instance(k)?;
+                let by_rule = rows_for_instance(bank, atoms, witnesses, &instance, branch);
+                Ok(rows.max(by_rule))
+            }
             Origin::Start => unreachable!(),
         },
-        Draft::Close(_, _, _) => rows,
+        Draft::Close(_, _, _) => Ok(rows),
         Draft::Cut(_, var, _, _) => {
             let literal = SatLit {
                 var,
                 positive: true,
             };
-            rows.max(rows_for_literal(bank, atoms, literal))
+            Ok(rows.max(rows_for_literal(bank, atoms, literal)))
         }
     }
 }

@@ -20,13 +20,13 @@ over_at n t used u i over h e =
 
 pub note-requires-clause-principals : goal.note-requires-clause-principals
 note-requires-clause-principals c =
-    let h = over_at (length c.args.noted.now.items) c.args.steps.now c.args.used.now c.loop-u.u c.instance.result.now c.requires.over c.loop-u-test.true c.instance.ensures in
-    subst (λ n. IsOver n c.instance.result.now.principals) (sym c.loop-u.invariant.count) h.0
+    let h = over_at (length c.args.noted.now.items) c.args.steps.now c.args.used.now c.loop-u.u c.in_ok-instance.instance c.requires.over c.loop-u-test.true c.in_ok-instance.ensures in
+    subst (λ n. IsOver n c.in_ok-instance.instance.principals) (sym c.loop-u.invariant.count) h.0
 
 pub note-requires-clause-alternatives : goal.note-requires-clause-alternatives
 note-requires-clause-alternatives c =
-    let h = over_at (length c.args.noted.now.items) c.args.steps.now c.args.used.now c.loop-u.u c.instance.result.now c.requires.over c.loop-u-test.true c.instance.ensures in
-    subst (λ n. All (IsOver n) c.instance.result.now.alternatives) (sym c.loop-u.invariant.count) h.1
+    let h = over_at (length c.args.noted.now.items) c.args.steps.now c.args.used.now c.loop-u.u c.in_ok-instance.instance c.requires.over c.loop-u-test.true c.in_ok-instance.ensures in
+    subst (λ n. All (IsOver n) c.in_ok-instance.instance.alternatives) (sym c.loop-u.invariant.count) h.1
 
 -- the places that are listed, with one more
 listed_more : (t : Table) (used : List ℕ) (n : ℕ) (i : BankInstance) (old new : List (List ℕ)) → n < length used → slice_get (the_instances t) (get_or used n 0) ≡ Some i → IsNotedMore (names_variable (without_rule (Some i))) n old new
@@ -49,13 +49,13 @@ loop-u-preserved c =
     let u = c.loop-u.u in
     let noted = c.in_ok-note.ensures in
     let i = c.loop-u.invariant in
-    let x = c.is_due-is_due.result in
+    let x = c.in_ok-is_due.is_due in
     record {
       count = noted.count ∙ i.count;
-      noted = listed_more t used u c.instance.result.now c.loop-u.noted.items c.note.new.noted.items c.loop-u-test.true c.instance.ensures noted i.noted;
+      noted = listed_more t used u c.in_ok-instance.instance c.loop-u.noted.items c.note.new.noted.items c.loop-u-test.true c.in_ok-instance.ensures noted i.noted;
       places = λ n p h. elim (noted.only n p h) [ inl old ↦ omega (arith, i.places n p old) | inr new ↦ omega (arith, new) ];
-      due = due_more t used c.args.branch.now.keys u x c.loop-u.due c.set.new.self c.is_due-is_due.ensures c.in_ok-set.ensures u refl i.due;
-      inside = below_more t used c.args.branch.now.keys u x c.loop-u.due c.set.new.self c.is_due-is_due.ensures c.in_ok-set.ensures u refl i.inside;
+      due = due_more t used c.args.branch.now.keys u x c.loop-u.due c.set.new.self c.in_ok-is_due.ensures c.in_ok-set.ensures u refl i.due;
+      inside = below_more t used c.args.branch.now.keys u x c.loop-u.due c.set.new.self c.in_ok-is_due.ensures c.in_ok-set.ensures u refl i.inside;
     }
 
 in_range : (used : List ℕ) (u k : ℕ) → slice_get used u ≡ Some k → u < length used

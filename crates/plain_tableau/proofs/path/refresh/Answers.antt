@@ -14,8 +14,8 @@ loop-i-preserved c =
     let place = slice_index_or places i 0 in
     let more = take_more places i 0 c.loop-i-test.true in
     record {
-      right = subst (λ ps. Knows t used b ps c.args.due.now c.set.new.self) (sym more) (knows_more t used b place c.is_due-is_due.result c.loop-i.due c.set.new.self c.is_due-is_due.ensures c.in_ok-set.ensures (take i places) c.args.due.now c.loop-i.invariant.right);
-      inside = λ inside. inside_more t used b place c.is_due-is_due.result c.loop-i.due c.set.new.self c.is_due-is_due.ensures c.in_ok-set.ensures (c.requires.places i 0 c.loop-i-test.true) (c.loop-i.invariant.inside inside);
+      right = subst (λ ps. Knows t used b ps c.args.due.now c.set.new.self) (sym more) (knows_more t used b place c.in_ok-is_due.is_due c.loop-i.due c.set.new.self c.in_ok-is_due.ensures c.in_ok-set.ensures (take i places) c.args.due.now c.loop-i.invariant.right);
+      inside = λ inside. inside_more t used b place c.in_ok-is_due.is_due c.loop-i.due c.set.new.self c.in_ok-is_due.ensures c.in_ok-set.ensures (c.requires.places i 0 c.loop-i-test.true) (c.loop-i.invariant.inside inside);
     }
 
 pub returns-clause-right : goal.returns-clause-right

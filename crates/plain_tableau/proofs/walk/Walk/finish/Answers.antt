@@ -22,7 +22,7 @@ write-requires-clause-good c =
     let used = c.args.used.now in
     let place = c.args.frame.place in
     let inside = frame_inside b.terms atoms t used place c.requires.back.top.instance c.requires.back.is_frame.instance in
-    good_use b atoms (rows_of b.terms c.args.witnesses.now) t (get_or used place 0) c.instance-instance.result.now (c.requires.used place 0 inside) c.instance-instance.ensures
+    good_use b atoms (rows_of b.terms c.args.witnesses.now) t (get_or used place 0) c.in_ok-instance.instance (c.requires.used place 0 inside) c.in_ok-instance.ensures
 
 pub truncate-requires-clause-within : goal.truncate-requires-clause-within
 truncate-requires-clause-within c = used_within c.args.bank.now c.args.atoms.now (rows_of c.args.bank.now.terms c.args.witnesses.now) c.args.steps.now c.args.used.now c.requires.used
@@ -50,8 +50,8 @@ returns-in-None-clause-stands c =
     let lines = c.args.self.now.writing.lines in
     let h = c.requires.back in
     let place = c.args.frame.place in
-    let i = expanded (the_instance b.terms atoms c.instance-instance.result.now) in
-    let there : slice_get U place ≡ Some i = h.is_frame.instance ∙ ap Some (frame_instance b.terms atoms t used place h.top.instance c.instance-instance.result.now h.is_frame.instance c.instance-instance.ensures) in
+    let i = expanded (the_instance b.terms atoms c.in_ok-instance.instance) in
+    let there : slice_get U place ≡ Some i = h.is_frame.instance ∙ ap Some (frame_instance b.terms atoms t used place h.top.instance c.in_ok-instance.instance h.is_frame.instance c.in_ok-instance.ensures) in
     let count : length c.pop.new.self.items ≡ 0 = omega (arith, c.in-None.ensures.cases.1, c.pop.new.self.ok.0) in
     let none = nothing_there c.pop.new.self.items count in
     let old : c.args.self.now.frames.items ≡ [] = c.in-None.ensures.items ∙ append-nil c.pop.new.self.items ∙ none in
@@ -74,8 +74,8 @@ returns-in_ok-push-in-Some-2-clause-stands c =
     let p = c.in-Some.parent in
     let ps = reverse c.pop.new.self.items in
     let k : Frame = record { place = p.place; len = p.len; children = c.push.new.self } in
-    let i = expanded (the_instance b.terms atoms c.instance-instance.result.now) in
-    let there : slice_get U place ≡ Some i = h.is_frame.instance ∙ ap Some (frame_instance b.terms atoms t used place h.top.instance c.instance-instance.result.now h.is_frame.instance c.instance-instance.ensures) in
+    let i = expanded (the_instance b.terms atoms c.in_ok-instance.instance) in
+    let there : slice_get U place ≡ Some i = h.is_frame.instance ∙ ap Some (frame_instance b.terms atoms t used place h.top.instance c.in_ok-instance.instance h.is_frame.instance c.in_ok-instance.ensures) in
     let frames = reverse_push c.pop.new.self.items c.args.self.now.frames.items p c.in-Some.ensures.items in
     let back = subst (λ fs. IsBack U c.args.nodes c.args.start.now A c.args.made fs c.args.frame keys lines) frames h in
     let is : c.write.new.self.lines ≡ lines ++ node_line A i keys c.args.frame.children ∷ [] = c.in_ok-number.ensures.lines ∙ ap (λ (ks : List SatLit). lines ++ node_line A i ks c.args.frame.children ∷ []) c.as_slice.ensures in

@@ -1,4 +1,5 @@
-use Rattle.std.proofs.Common.{◌≡◌, ◌<◌, ◌≤◌, ◌+◌, ◌++◌, ℕ, true, false, List, [], ◌∷◌, length, reverse, get_or, Some, slice_get, refl, sym, ap, ◌∙◌, subst, length-append, arith}
+use Rattle.std.proofs.lemmas.Option.{slice_get_within}
+use Rattle.std.proofs.Common.{◌≡◌, ◌<◌, ◌≤◌, ◌+◌, ◌++◌, ℕ, true, false, List, [], ◌∷◌, length, reverse, get_or, Some, slice_get, slice_index_or, refl, sym, ap, ◌∙◌, subst, length-append, arith}
 use Rattle.sat_base.specs.declared.literal.SatLit.{SatLit}
 use Rattle.sat_base.specs.Literal.{IsOver}
 use Rattle.stt_core.specs.Lambda.{Lambda}
@@ -37,8 +38,8 @@ enter-requires-clause-over c =
     let rows = rows_of b.terms c.args.witnesses.now in
     let place = c.args.frame.place in
     let inside = frame_inside b.terms atoms t used place c.requires.back.top.instance c.requires.back.is_frame.instance in
-    let over = usable_over b atoms rows t (get_or used place 0) c.instance-instance.result.now (c.requires.used place 0 inside) c.instance-instance.ensures in
-    subst (IsOver (length atoms)) (sym c.as_slice-lits.ensures) (alternative_over (length atoms) c.instance-instance.result.now.alternatives c.loop-k.k c.at.result.now over.alternatives c.at.ensures)
+    let over = usable_over b atoms rows t (get_or used place 0) c.in_ok-instance.instance (c.requires.used place 0 inside) c.in_ok-instance.ensures in
+    subst (IsOver (length atoms)) (sym c.as_slice-lits.ensures) (alternative_over (length atoms) c.in_ok-instance.instance.alternatives c.loop-k.k c.at.result.now over.alternatives c.at.ensures)
 
 pub returns-then-not-clashes-clause-writing : goal.returns-then-not-clashes-clause-writing
 returns-then-not-clashes-clause-writing c = subst (IsWriting c.args.bank.now c.args.atoms.now c.args.witnesses.now) (sym c.in_ok-enter.ensures.writing) c.loop-k.invariant.writing
@@ -57,7 +58,7 @@ returns-then-not-clashes-clause-ahead c = λ _.
     let lines = c.loop-k.self.writing.lines in
     let fs = reverse c.loop-k.self.frames.items in
     let a = c.at.result.now in
-    let there = alternative_at b.terms atoms t used f.place c.args.frame.place h.top.instance c.instance-instance.result.now c.loop-k.k (length f.children) a c.loop-k.invariant.place h.is_frame.instance c.instance-instance.ensures c.at.ensures c.loop-k.invariant.count in
+    let there = alternative_at b.terms atoms t used f.place c.args.frame.place h.top.instance c.in_ok-instance.instance c.loop-k.k (length f.children) a c.loop-k.invariant.place h.is_frame.instance c.in_ok-instance.ensures c.at.ensures c.loop-k.invariant.count in
     let open' : clashes keys a ≡ false = ap (clashes keys) (sym c.as_slice-lits.ensures) ∙ sym c.clashes.ensures ∙ c.if-not-clashes.true in
     let ahead = open_ahead U c.args.nodes c.args.start.now A c.args.made fs f keys lines h h.top.instance h.is_frame.instance a there open' in
     let frames : reverse c.enter.new.self.frames.items ≡ f ∷ fs = ap (λ v. reverse v.items) c.in_ok-enter.ensures.frames ∙ reverse_push c.loop-k.self.frames.items c.push.new.self.items f c.in_ok-push.ensures.items in
@@ -78,7 +79,7 @@ loop-k-preserved c =
     let h = c.loop-k.invariant.back in
     let keys = c.loop-k.self.path.literals.keys in
     let a = c.at.result.now in
-    let there = alternative_at b.terms atoms t used f.place c.args.frame.place h.top.instance c.instance-instance.result.now c.loop-k.k (length f.children) a c.loop-k.invariant.place h.is_frame.instance c.instance-instance.ensures c.at.ensures c.loop-k.invariant.count in
+    let there = alternative_at b.terms atoms t used f.place c.args.frame.place h.top.instance c.in_ok-instance.instance c.loop-k.k (length f.children) a c.loop-k.invariant.place h.is_frame.instance c.in_ok-instance.ensures c.at.ensures c.loop-k.invariant.count in
     let shut : clashes keys a ≡ true = ap (clashes keys) (sym c.as_slice-lits.ensures) ∙ sym c.clashes.ensures ∙ c.if-not-clashes.false in
     let k : Frame = record { place = f.place; len = f.len; children = c.push-in-loop-k.new.self } in
     let counted = ap (λ (cs : List Child). length cs) c.in_ok-push-2.ensures.ok ∙ length-append f.children (Closed ∷ []) in
@@ -98,6 +99,11 @@ finish-requires-clause-writing c = c.loop-k.invariant.writing
 
 pub finish-requires-clause-full : goal.finish-requires-clause-full
 finish-requires-clause-full c = λ i there.
-    let is = frame_instance c.args.bank.now.terms c.args.atoms.now c.args.steps.now c.args.used.now c.loop-k.frame.place i c.instance-instance.result.now there (ap (λ p. slice_get (the_instances c.args.steps.now) (get_or c.args.used.now p 0)) c.loop-k.invariant.place ∙ c.instance-instance.ensures) in
-    let count : length i.alternatives ≡ length c.instance-instance.result.now.alternatives = ap (λ (x : TreeInstance SatLit). length x.alternatives) is in
+    let is = frame_instance c.args.bank.now.terms c.args.atoms.now c.args.steps.now c.args.used.now c.loop-k.frame.place i c.in_ok-instance.instance there (ap (λ p. slice_get (the_instances c.args.steps.now) (get_or c.args.used.now p 0)) c.loop-k.invariant.place ∙ c.in_ok-instance.ensures) in
+    let count : length i.alternatives ≡ length c.in_ok-instance.instance.alternatives = ap (λ (x : TreeInstance SatLit). length x.alternatives) is in
     omega (arith, count, c.loop-k.invariant.count, c.loop-k-test.false, c.len-k-end.ensures)
+
+pub enter-requires-clause-within : goal.enter-requires-clause-within
+enter-requires-clause-within c = λ k d h.
+    let usable = c.requires.used k d h in
+    slice_get_within (the_instances c.args.steps.now) (slice_index_or c.args.used.now k d) usable.instance usable.there

@@ -63,8 +63,8 @@ line_of-requires-clause-makeable c =
     let drafted = slice_get-get_or ds i (Clause 0) (c.requires.inside k i listed) in
     c.requires.makeable k i (slice_index_or ds i (Clause 0)) listed drafted
 
-pub rows_for_line-rows-requires-clause-parts : goal.rows_for_line-rows-requires-clause-parts
-rows_for_line-rows-requires-clause-parts c =
+pub rows_for_line-requires-clause-parts : goal.rows_for_line-requires-clause-parts
+rows_for_line-requires-clause-parts c =
     let order = c.args.order.now in
     let ds = c.args.drafts.now in
     let k = c.loop-k.k in
@@ -88,8 +88,8 @@ line_of-requires-clause-numbered c =
     let made = branch_made c.args.bank.now c.args.atoms.now c.args.steps.now ds c.requires.right c.args.last c.requires.last order c.requires.walked c.requires.inside c.args.numbers.now c.requires.numbers k i d c.deref.result.now listed drafted (c.requires.makeable k i d listed drafted) (c.deref.ensures.value ∙ c.loop-k.invariant.branches) in
     subst (IsOver (length c.args.atoms.now)) (sym (c.as_slice.ensures ∙ c.in_ok-branch.ensures.branch ∙ made)) (c.requires.numbered k i listed)
 
-pub rows_for_line-rows-requires-clause-numbered : goal.rows_for_line-rows-requires-clause-numbered
-rows_for_line-rows-requires-clause-numbered c =
+pub rows_for_line-requires-clause-numbered : goal.rows_for_line-requires-clause-numbered
+rows_for_line-requires-clause-numbered c =
     let order = c.args.order.now in
     let ds = c.args.drafts.now in
     let k = c.loop-k.k in
@@ -123,7 +123,7 @@ loop-k-preserved c =
     record {
       branches = map_more (λ j. branch (the_tree b.terms atoms t ds j)) order k i c.loop-k.self.branches.items c.push-in-loop-k.new.self.items c.in_ok-packed.packed listed c.loop-k.invariant.branches (c.in_ok-packed.ensures ∙ c.as_slice-in-loop-k-2.ensures ∙ is) c.in_ok-push-2.ensures.items;
       lines = map_more (λ j. line_of (atoms_at b.terms atoms) (map (the_tree b.terms atoms t ds) order) (the_tree b.terms atoms t ds j)) order k i c.loop-k.self.written.lines c.push.new.self c.in_ok-line.line listed c.loop-k.invariant.lines right c.in_ok-push.ensures.ok;
-      rows = lines_more (rows_of b.terms c.args.witnesses.now) c.loop-k.self.written.lines c.push.new.self c.in_ok-line.line c.loop-k.self.written.rows c.rows_for_line-rows.result c.max-self.result c.in_ok-push.ensures.ok c.loop-k.invariant.rows (c.rows_for_line-rows.ensures numbers c.in_ok-line.line (subst (λ ls. IsLineBy b atoms t numbers ls d c.in_ok-line.line) (c.as_slice.ensures ∙ sym c.as_slice-in-loop-k.ensures) c.in_ok-line.ensures.line)) c.max-self.ensures;
+      rows = lines_more (rows_of b.terms c.args.witnesses.now) c.loop-k.self.written.lines c.push.new.self c.in_ok-line.line c.loop-k.self.written.rows c.in_ok-rows.rows c.max-self.result c.in_ok-push.ensures.ok c.loop-k.invariant.rows (c.in_ok-rows.ensures numbers c.in_ok-line.line (subst (λ ls. IsLineBy b atoms t numbers ls d c.in_ok-line.line) (c.as_slice.ensures ∙ sym c.as_slice-in-loop-k.ensures) c.in_ok-line.ensures.line)) c.max-self.ensures;
       empty = c.in_ok-branch.ensures.empty;
       made = c.in_ok-line.ensures.made;
       in_range = subst (AllByRecursion HasNumbers) (sym c.in_ok-push.ensures.ok) (all-last HasNumbers c.loop-k.self.written.lines c.in_ok-line.line c.loop-k.invariant.in_range c.line_in_range.ensures);
