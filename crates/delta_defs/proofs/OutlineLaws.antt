@@ -5,7 +5,7 @@ use Rattle.std.proofs.lemmas.List.{append-nil, map-append}
 use Rattle.std.specs.List.{list_any}
 use Rattle.std.specs.Ordering.{nat_cmp}
 use Rattle.std.specs.BTreeMap.{BTreeMap, get}
-use Rattle.std.specs.BTreeSet.{BTreeSet, contains}
+use Rattle.std.specs.BTreeSet.{contains}
 use Rattle.stt_core.specs.Lambda.{Constant, name, witness, falsity, negation, implication, all, equality, choice, description, Lambda, bound, constant, lam, app, node_count}
 use Rattle.stt_core.specs.SameTerm.{same_constant}
 use Rattle.stt_core.proofs.SameTerms.{same_term-true}
@@ -134,15 +134,15 @@ first_nodes-push (e ∷ ds) d k = go (nat_eq e.place k) (first_nodes-push ds d k
     go false h = h
 
 -- the outline with one definition more
-pub outline_more : (o more : Outline) (mid : BTreeSet ℕ) (ds : List Definition) (d : Definition) (n : ℕ) → IsOutline o ds → n ≡ nodes_in o.nodes d.term → ((k : ℕ) → get nat_cmp more.nodes k ≡ first_or (get nat_cmp o.nodes k) d.place n k) → ((k : ℕ) → contains nat_cmp mid k ≡ (nat_eq d.place k || contains nat_cmp o.involved k)) → ((k : ℕ) → contains nat_cmp more.involved k ≡ (mentions (name k) d.term || contains nat_cmp mid k)) → IsOutline more (ds ++ in_terms_of ds d ∷ [])
-outline_more o more mid ds d n h e next place term = record {
+pub outline_more : (o more : Outline) (ds : List Definition) (d : Definition) (n : ℕ) → IsOutline o ds → n ≡ nodes_in o.nodes d.term → ((k : ℕ) → get nat_cmp more.nodes k ≡ first_or (get nat_cmp o.nodes k) d.place n k) → ((k : ℕ) → contains nat_cmp more.involved k ≡ (mentions (name k) d.term || (nat_eq d.place k || contains nat_cmp o.involved k))) → IsOutline more (ds ++ in_terms_of ds d ∷ [])
+outline_more o more ds d n h e next names = record {
   nodes_are = λ k.
       next k
       ∙ ap₂ (λ i m. first_or i d.place m k) (h.nodes_are k) (e ∙ sym (nodes-unfolded o.nodes ds h.nodes_are d.term))
       ∙ sym (first_nodes-push ds (in_terms_of ds d) k);
   involved_are = λ k.
-      term k
-      ∙ ap (λ b. mentions (name k) d.term || b) (place k ∙ ap (λ b. nat_eq d.place k || b) (h.involved_are k))
+      names k
+      ∙ ap (λ b. mentions (name k) d.term || (nat_eq d.place k || b)) (h.involved_are k)
       ∙ swap (mentions (name k) d.term) (nat_eq d.place k) (list_any (involves k) ds)
       ∙ sym (involved-next ds k d)
       ∙ sym (any-push (involves k) ds (in_terms_of ds d));

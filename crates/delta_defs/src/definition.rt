@@ -63,7 +63,7 @@ pub(crate) fn mentions(term: &Term, place: u32) -> bool
 }
 
 /// Adds a name to a set.
-pub(crate) fn add_name(names: &mut BTreeSet<u32>, place: u32) -> Result<(), AllocError>
+fn add_name(names: &mut BTreeSet<u32>, place: u32) -> Result<(), AllocError>
     ensures { OnOk result ((k : ℕ) → contains nat_cmp names.new k ≡ (nat_eq place k || contains nat_cmp names.old k)) }
 {
     names.insert(place)?;
@@ -71,7 +71,7 @@ pub(crate) fn add_name(names: &mut BTreeSet<u32>, place: u32) -> Result<(), Allo
 }
 
 /// Adds the names that occur in a term to a set.
-pub(crate) fn add_names(names: &mut BTreeSet<u32>, term: &Term) -> Result<(), AllocError>
+fn add_names(names: &mut BTreeSet<u32>, term: &Term) -> Result<(), AllocError>
     ensures { OnOk result ((k : ℕ) → contains nat_cmp names.new k ≡ (occurs_in (name k) (the_term term.now) || contains nat_cmp names.old k)) }
 {
     match term {
@@ -86,16 +86,30 @@ pub(crate) fn add_names(names: &mut BTreeSet<u32>, term: &Term) -> Result<(), Al
 }
 
 /// Notes the index of a name's definition, unless it has an earlier one.
-pub(crate) fn note(
-    firsts: &mut BTreeMap<u32, usize>,
-    place: u32,
-    index: usize,
-) -> Result<(), AllocError>
+fn note(firsts: &mut BTreeMap<u32, usize>, place: u32, index: usize) -> Result<(), AllocError>
     ensures { OnOk result ((k : ℕ) → get nat_cmp firsts.new k ≡ first_or (get nat_cmp firsts.old k) place index k) }
 {
     if !firsts.contains_key(&place) {
         firsts.insert(place, index)?;
     }
+    Ok(())
+}
+
+/// Notes a name by its number, and adds the name and those of its term to a set.
+pub(crate) fn note_names(
+    numbers: &mut BTreeMap<u32, usize>,
+    names: &mut BTreeSet<u32>,
+    place: u32,
+    number: usize,
+    term: &Term,
+) -> Result<(), AllocError>
+    ensures numbers { OnOk result ((k : ℕ) → get nat_cmp numbers.new k ≡ first_or (get nat_cmp numbers.old k) place number k) }
+    ensures names { OnOk result ((k : ℕ) → contains nat_cmp names.new k
+        ≡ (occurs_in (name k) (the_term term.now) || (nat_eq place k || contains nat_cmp names.old k))) }
+{
+    note(numbers, place, number)?;
+    add_name(names, place)?;
+    add_names(names, term)?;
     Ok(())
 }
 
@@ -120,9 +134,13 @@ impl Definitions {
             mut firsts,
             mut involved,
         } = self;
-        note(&mut firsts, definition.place, index)?;
-        add_name(&mut involved, definition.place)?;
-        add_names(&mut involved, &definition.term)?;
+        note_names(
+            &mut firsts,
+            &mut involved,
+            definition.place,
+            index,
+            &definition.term,
+        )?;
         items.push(definition)?;
         Ok(Definitions {
             items,

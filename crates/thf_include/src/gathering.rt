@@ -164,7 +164,7 @@ fn gather_statement<F: Files>(
                 name,
                 only,
             };
-            gather_include(alloc, files, opened, &*chain, include, gathered)
+            gather_include(alloc, files, opened, &*chain, &include, gathered)
         }
     }
 }
@@ -176,12 +176,12 @@ fn gather_include<F: Files>(
     files: &mut F,
     opened: &mut Opened,
     chain: &Chain,
-    statement: Include,
+    statement: &Include,
     gathered: &mut Gathered,
 ) -> Result<(), GatherRefused>
-    requires { IsUtf8 statement.name }
-    ensures steps { StatementSteps (F.tells files.old) (F.contents files.old) (the_chain chain.now) statement.file
-        (include statement.at statement.name (the_selection statement.only))
+    requires { IsUtf8 statement.now.name }
+    ensures steps { StatementSteps (F.tells files.old) (F.contents files.old) (the_chain chain.now) statement.now.file
+        (include statement.now.at statement.now.name (the_selection statement.now.only))
         opened.old opened.new (the_statements gathered.old) (the_statements gathered.new) result }
     ensures fault { IfErr result (OfFault (λ file. IsSomeAnd (slice_get opened.new.names file) (λ n.
         Rose (F.faults files.old n) (F.faults files.new n)))) }
@@ -199,10 +199,16 @@ fn gather_include<F: Files>(
         only,
     } = statement;
     if chain.contains(name.as_slice()) {
-        return Err(GatherRefused::Cycle { file, at });
+        return Err(GatherRefused::Cycle {
+            file: *file,
+            at: *at,
+        });
     }
     if opened.names.len() >= MAX_FILES {
-        return Err(GatherRefused::TooMany { file, at });
+        return Err(GatherRefused::TooMany {
+            file: *file,
+            at: *at,
+        });
     }
     let name = text_of(name.as_slice());
     match only {
@@ -210,7 +216,7 @@ fn gather_include<F: Files>(
         Some(only) => {
             let mut included = Gathered::new(alloc);
             gather_file(alloc, files, opened, &*chain, name, &mut included)?;
-            keep_selected(alloc, file, &only, included, gathered)
+            keep_selected(alloc, *file, only, included, gathered)
         }
     }
 }

@@ -1,9 +1,9 @@
 //! What statements say.
 
-ghost use Rattle.std.specs.Prelude.{◌≡◌, ◌+◌, ◌-◌, ◌<◌, ◌≤◌, ◌^◌, length, IfOk};
+ghost use Rattle.std.specs.Prelude.{◌≡◌, ◌+◌, ◌-◌, ◌<◌, ◌≤◌, ◌^◌, length, OnOk};
 ghost use Rattle.stt_core.specs.View.{the_term};
 ghost use Rattle.thf_grammar.specs.View.{the_annotated, the_body, the_formula, the_surface_type};
-ghost use Rattle.type_check.specs.Internal.Answers.{AnswersCheck};
+ghost use Rattle.type_check.specs.Internal.Answers.{AnswersCheck, ReadsOn};
 ghost use Rattle.type_check.specs.Statements as defined;
 ghost use Rattle.type_check.specs.Internal.ReadingView.{the_reading};
 
@@ -13,7 +13,8 @@ use crate::terms::read_closed;
 use crate::types::read_type;
 use outside::Bytes;
 use std::alloc::{AllocError, Global};
-use stt_core::{Flags, Term, Terms, Ty};
+use std::mem;
+use stt_core::{Flags, Problem, Term, Terms, Ty};
 use thf_grammar::{Annotated, Body, Surface, SurfaceTy};
 
 /// What the statements say so far: what is declared, the formulas that are assumed, in order, with a mark for each that tells whether it is
@@ -100,10 +101,10 @@ impl Reading {
     }
 
     /// Declares a base type.
-    fn read_base(self, at: u32, name: &Bytes) -> Result<Reading, Refusal>
-        requires { length self.declared.bases < 2 ^ 32 - 2 }
-        ensures answer { AnswersCheck the_reading result (defined.read_base (the_reading self) at name.now) }
-        ensures grows { IfOk result (λ r. length r.declared.bases + length r.declared.consts ≤ length self.declared.bases + length self.declared.consts + 1) }
+    fn read_base(&mut self, alloc: Global, at: u32, name: &Bytes) -> Result<(), Refusal>
+        requires { length self.old.declared.bases < 2 ^ 32 - 2 }
+        ensures answer { ReadsOn (the_reading self.new) result (defined.read_base (the_reading self.old) at name.now) }
+        ensures grows { OnOk result (length self.new.declared.bases + length self.new.declared.consts ≤ length self.old.declared.bases + length self.old.declared.consts + 1) }
     {
         if self.declared.find(name).is_some() {
             return Err(Refusal::At {
@@ -111,23 +112,22 @@ impl Reading {
                 why: IllWhy::Twice,
             });
         }
-        Ok(Reading {
-            declared: self.declared.with_base(name)?,
-            ..self
-        })
+        let declared = mem::replace(&mut self.declared, Declared::new(alloc));
+        self.declared = declared.with_base(name)?;
+        Ok(())
     }
 
     /// Declares a constant.
     fn read_const(
-        self,
+        &mut self,
         alloc: Global,
         at: u32,
         name: &Bytes,
         ty: &SurfaceTy,
-    ) -> Result<Reading, Refusal>
-        requires { length self.declared.consts < 2 ^ 32 }
-        ensures answer { AnswersCheck the_reading result (defined.read_const (the_reading self) at name.now (the_surface_type ty.now)) }
-        ensures grows { IfOk result (λ r. length r.declared.bases + length r.declared.consts ≤ length self.declared.bases + length self.declared.consts + 1) }
+    ) -> Result<(), Refusal>
+        requires { length self.old.declared.consts < 2 ^ 32 }
+        ensures answer { ReadsOn (the_reading self.new) result (defined.read_const (the_reading self.old) at name.now (the_surface_type ty.now)) }
+        ensures grows { OnOk result (length self.new.declared.bases + length self.new.declared.consts ≤ length self.old.declared.bases + length self.old.declared.consts + 1) }
     {
         if self.declared.find(name).is_some() {
             return Err(Refusal::At {
@@ -136,53 +136,52 @@ impl Reading {
             });
         }
         let a = read_type(alloc, &self.declared, ty)?;
-        Ok(Reading {
-            declared: self.declared.with_const(name, a)?,
-            ..self
-        })
+        let declared = mem::replace(&mut self.declared, Declared::new(alloc));
+        self.declared = declared.with_const(name, a)?;
+        Ok(())
     }
 
     /// Adds a formula: the conjecture, or one that is assumed.
-    fn with_formula(mut self, role: &[u8], t: Term) -> Result<Reading, AllocError>
-        ensures formula { IfOk result (λ p. the_reading p ≡ defined.with_formula role.now (the_term t) (the_reading self)) }
-        ensures same { IfOk result (λ r. r.declared ≡ self.declared) }
+    fn add_formula(&mut self, role: &[u8], t: Term) -> Result<(), AllocError>
+        ensures formula { OnOk result (the_reading self.new ≡ defined.with_formula role.now (the_term t) (the_reading self.old)) }
+        ensures same { OnOk result (self.new.declared ≡ self.old.declared) }
     {
         if is_conjecture(role) {
             self.conjecture = Some(t);
-        } else {
-            self.assumed.push(t)?;
-            self.marked.push(is_definition(role))?;
+            return Ok(());
         }
-        Ok(self)
+        self.assumed.push(t)?;
+        self.marked.push(is_definition(role))?;
+        Ok(())
     }
 
     /// Reads what a statement declares or states.
-    fn read_body(self, alloc: Global, role: &[u8], body: &Body) -> Result<Reading, Refusal>
-        requires bases { length self.declared.bases < 2 ^ 32 - 2 }
-        requires consts { length self.declared.consts < 2 ^ 32 }
-        ensures answer { AnswersCheck the_reading result (defined.read_body (the_reading self) role.now (the_body body.now)) }
-        ensures grows { IfOk result (λ r. length r.declared.bases + length r.declared.consts ≤ length self.declared.bases + length self.declared.consts + 1) }
+    fn read_body(&mut self, alloc: Global, role: &[u8], body: &Body) -> Result<(), Refusal>
+        requires bases { length self.old.declared.bases < 2 ^ 32 - 2 }
+        requires consts { length self.old.declared.consts < 2 ^ 32 }
+        ensures answer { ReadsOn (the_reading self.new) result (defined.read_body (the_reading self.old) role.now (the_body body.now)) }
+        ensures grows { OnOk result (length self.new.declared.bases + length self.new.declared.consts ≤ length self.old.declared.bases + length self.old.declared.consts + 1) }
     {
         match body {
-            Body::Base { at, name } => self.read_base(*at, name),
+            Body::Base { at, name } => self.read_base(alloc, *at, name),
             Body::Typing { at, name, ty } => self.read_const(alloc, *at, name, ty),
             Body::Formula(tree) => {
                 let t = read_formula(alloc, &self.declared, tree)?;
-                Ok(self.with_formula(role, t)?)
+                Ok(self.add_formula(role, t)?)
             }
         }
     }
 
-    /// Reads a statement.
+    /// Reads a statement. After a refusal what was read so far counts for nothing.
     pub(crate) fn read_statement(
-        self,
+        &mut self,
         alloc: Global,
         statement: &Annotated,
-    ) -> Result<Reading, Refusal>
-        requires bases { length self.declared.bases < 2 ^ 32 - 2 }
-        requires consts { length self.declared.consts < 2 ^ 32 }
-        ensures answer { AnswersCheck the_reading result (defined.read_statement (the_reading self) (the_annotated statement.now)) }
-        ensures grows { IfOk result (λ r. length r.declared.bases + length r.declared.consts ≤ length self.declared.bases + length self.declared.consts + 1) }
+    ) -> Result<(), Refusal>
+        requires bases { length self.old.declared.bases < 2 ^ 32 - 2 }
+        requires consts { length self.old.declared.consts < 2 ^ 32 }
+        ensures answer { ReadsOn (the_reading self.new) result (defined.read_statement (the_reading self.old) (the_annotated statement.now)) }
+        ensures grows { OnOk result (length self.new.declared.bases + length self.new.declared.consts ≤ length self.old.declared.bases + length self.old.declared.consts + 1) }
     {
         let role = statement.role.as_slice();
         if !is_role(role) {
@@ -198,5 +197,17 @@ impl Reading {
             });
         }
         self.read_body(alloc, role, &statement.body)
+    }
+
+    /// The problem that was read.
+    pub(crate) fn into_problem(self) -> Problem
+        ensures { result ≡ the_reading self }
+    {
+        Problem {
+            signature: self.declared.into_signature(),
+            assumed: self.assumed,
+            marked: self.marked,
+            conjecture: self.conjecture,
+        }
     }
 }

@@ -55,16 +55,16 @@ gather_file-returns-clause-steps g t c =
 pub gather_include-returns-then-contains-clause-steps : goal.gather_include-returns-then-contains-clause-steps
 gather_include-returns-then-contains-clause-steps g t c =
     let files = g.F.Files in
-    cycle-step (files.tells c.args.files.now) (files.contents c.args.files.now) (the_chain c.args.chain.now) c.args.statement.file c.args.opened.now (the_statements c.args.gathered.now)
-    c.args.statement.at c.args.statement.name (the_selection c.args.statement.only)
+    cycle-step (files.tells c.args.files.now) (files.contents c.args.files.now) (the_chain c.args.chain.now) c.args.statement.now.file c.args.opened.now (the_statements c.args.gathered.now)
+    c.args.statement.now.at c.args.statement.now.name (the_selection c.args.statement.now.only)
     (subst (λ n. Contains (the_chain c.args.chain.now) n) c.as_slice.ensures (c.contains.ensures.0 c.if-contains.true))
 
 pub gather_include-returns-then-len-ge-MAX_FILES-clause-steps : goal.gather_include-returns-then-len-ge-MAX_FILES-clause-steps
 gather_include-returns-then-len-ge-MAX_FILES-clause-steps g t c =
     let files = g.F.Files in
-    let apart : Contains (the_chain c.args.chain.now) c.args.statement.name → ⊥ = λ k. let is = c.contains.ensures.1 (subst (λ n. Contains (the_chain c.args.chain.now) n) (sym c.as_slice.ensures) k) in let no = c.if-contains.false in cc in
-    full-step (files.tells c.args.files.now) (files.contents c.args.files.now) (the_chain c.args.chain.now) c.args.statement.file c.args.opened.now (the_statements c.args.gathered.now)
-    c.args.statement.at c.args.statement.name (the_selection c.args.statement.only) apart (omega arith)
+    let apart : Contains (the_chain c.args.chain.now) c.args.statement.now.name → ⊥ = λ k. let is = c.contains.ensures.1 (subst (λ n. Contains (the_chain c.args.chain.now) n) (sym c.as_slice.ensures) k) in let no = c.if-contains.false in cc in
+    full-step (files.tells c.args.files.now) (files.contents c.args.files.now) (the_chain c.args.chain.now) c.args.statement.now.file c.args.opened.now (the_statements c.args.gathered.now)
+    c.args.statement.now.at c.args.statement.now.name (the_selection c.args.statement.now.only) apart (omega arith)
 
 pub gather_include-returns-in-None-clause-steps : goal.gather_include-returns-in-None-clause-steps
 gather_include-returns-in-None-clause-steps g t c =
@@ -74,9 +74,9 @@ gather_include-returns-in-None-clause-steps g t c =
     let chain = the_chain c.args.chain.now in
     let before = the_statements c.args.gathered.now in
     let after = the_statements c.gather_file.new.gathered in
-    let apart : Contains chain c.args.statement.name → ⊥ = λ k. let is = c.contains.ensures.1 (subst (λ n. Contains chain n) (sym c.as_slice.ensures) k) in let no = c.if-contains.false in cc in
-    subst (λ o. StatementSteps tells contents chain c.args.statement.file (include c.args.statement.at c.args.statement.name (the_selection o)) c.args.opened.now c.gather_file.new.opened before after c.gather_file.result) (sym c.in-None.is)
-    (include-whole tells contents chain c.args.statement.file c.args.statement.at c.args.statement.name c.args.opened.now c.gather_file.new.opened apart (omega arith) before after c.gather_file.result
+    let apart : Contains chain c.args.statement.now.name → ⊥ = λ k. let is = c.contains.ensures.1 (subst (λ n. Contains chain n) (sym c.as_slice.ensures) k) in let no = c.if-contains.false in cc in
+    subst (λ o. StatementSteps tells contents chain c.args.statement.now.file (include c.args.statement.now.at c.args.statement.now.name (the_selection o)) c.args.opened.now c.gather_file.new.opened before after c.gather_file.result) (sym c.in-None.is)
+    (include-whole tells contents chain c.args.statement.now.file c.args.statement.now.at c.args.statement.now.name c.args.opened.now c.gather_file.new.opened apart (omega arith) before after c.gather_file.result
     (subst (λ n. FileSteps tells contents chain n c.args.opened.now c.gather_file.new.opened before after c.gather_file.result) (c.text_of-name.ensures ∙ c.as_slice-2.ensures) c.gather_file.ensures.steps))
 
 pub gather_include-returns-in_err-gather_file-in-Some-clause-steps : goal.gather_include-returns-in_err-gather_file-in-Some-clause-steps
@@ -89,14 +89,14 @@ gather_include-returns-in_err-gather_file-in-Some-clause-steps g t c =
     let fresh = the_statements c.new-included.result in
     let included = the_statements c.gather_file-in-Some.new.gathered in
     let e = c.in_err-gather_file-in-Some.field-0.0 in
-    let apart : Contains chain c.args.statement.name → ⊥ = λ k. let is = c.contains.ensures.1 (subst (λ n. Contains chain n) (sym c.as_slice.ensures) k) in let no = c.if-contains.false in cc in
+    let apart : Contains chain c.args.statement.now.name → ⊥ = λ k. let is = c.contains.ensures.1 (subst (λ n. Contains chain n) (sym c.as_slice.ensures) k) in let no = c.if-contains.false in cc in
     let p = err_from_is_err_and c.from_residual.result c.from_residual.ensures.1 in
     rw (p.1, p.2)
-    (include-stopped tells contents chain c.args.statement.file c.args.statement.at c.args.statement.name c.args.opened.now c.gather_file-in-Some.new.opened apart (omega arith) (the_selection c.args.statement.only) fresh included before before e
+    (include-stopped tells contents chain c.args.statement.now.file c.args.statement.now.at c.args.statement.now.name c.args.opened.now c.gather_file-in-Some.new.opened apart (omega arith) (the_selection c.args.statement.now.only) fresh included before before e
     (subst (λ n. FileSteps {T = Unit {0}} tells contents chain n c.args.opened.now c.gather_file-in-Some.new.opened fresh included (Err e)) (c.text_of-name.ensures ∙ c.as_slice-2.ensures) c.in_err-gather_file-in-Some.ensures.steps))
 
-pub gather_include-returns-clause-steps : goal.gather_include-returns-clause-steps
-gather_include-returns-clause-steps g t c =
+pub gather_include-returns-in_ok-gather_file-in-Some-clause-steps : goal.gather_include-returns-in_ok-gather_file-in-Some-clause-steps
+gather_include-returns-in_ok-gather_file-in-Some-clause-steps g t c =
     let files = g.F.Files in
     let tells = files.tells c.args.files.now in
     let contents = files.contents c.args.files.now in
@@ -105,9 +105,9 @@ gather_include-returns-clause-steps g t c =
     let after = the_statements c.keep_selected.new.gathered in
     let fresh = the_statements c.new-included.result in
     let included = the_statements c.gather_file-in-Some.new.gathered in
-    let apart : Contains chain c.args.statement.name → ⊥ = λ k. let is = c.contains.ensures.1 (subst (λ n. Contains chain n) (sym c.as_slice.ensures) k) in let no = c.if-contains.false in cc in
-    subst (λ o. StatementSteps tells contents chain c.args.statement.file (include c.args.statement.at c.args.statement.name (the_selection o)) c.args.opened.now c.gather_file-in-Some.new.opened before after c.keep_selected.result) (sym c.in-Some.is)
-    (include-selected tells contents chain c.args.statement.file c.args.statement.at c.args.statement.name c.args.opened.now c.gather_file-in-Some.new.opened apart (omega arith) c.in_ok-gather_file-in-Some.field-0 (map the_selected c.in-Some.only) fresh included before after
+    let apart : Contains chain c.args.statement.now.name → ⊥ = λ k. let is = c.contains.ensures.1 (subst (λ n. Contains chain n) (sym c.as_slice.ensures) k) in let no = c.if-contains.false in cc in
+    subst (λ o. StatementSteps tells contents chain c.args.statement.now.file (include c.args.statement.now.at c.args.statement.now.name (the_selection o)) c.args.opened.now c.gather_file-in-Some.new.opened before after c.keep_selected.result) (sym c.in-Some.is)
+    (include-selected tells contents chain c.args.statement.now.file c.args.statement.now.at c.args.statement.now.name c.args.opened.now c.gather_file-in-Some.new.opened apart (omega arith) c.in_ok-gather_file-in-Some.field-0 (map the_selected c.in-Some.only) fresh included before after
     (ap the_statements c.new-included.ensures)
     (subst (λ n. FileSteps tells contents chain n c.args.opened.now c.gather_file-in-Some.new.opened fresh included (Ok c.in_ok-gather_file-in-Some.field-0)) (c.text_of-name.ensures ∙ c.as_slice-2.ensures) c.in_ok-gather_file-in-Some.ensures.steps)
     c.keep_selected.result c.keep_selected.ensures)
