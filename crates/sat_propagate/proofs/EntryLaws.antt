@@ -12,24 +12,28 @@ use Rattle.sat_laws.specs.Internal.Complete.{satisfies}
 use Rattle.sat_laws.proofs.CompleteLaws.{satisfied_by}
 use Rattle.sat_propagate.specs.Internal.Trail.{TrailState, literals}
 use Rattle.sat_propagate.specs.Internal.WatchLists.{WatchPair, watchers}
-use Rattle.sat_propagate.specs.Internal.Propagator.{IsPair, Watches, IsPropagator, AreDone, Rewatched, Moves}
+use Rattle.sat_propagate.specs.Internal.Propagator.{IsPair, IsBeside, Watches, IsPropagator, AreDone, Rewatched, Moves}
 use Rattle.sat_propagate.specs.Internal.Finding.{FindsOther, FindsUnit}
 use Rattle.sat_propagate.specs.declared.trail.Step.{Step}
 use Rattle.sat_propagate.specs.declared.watch_lists.Watch.{Watch}
 use Rattle.sat_propagate.specs.Internal.ClauseTable.{Watched}
 use Rattle.sat_propagate.proofs.ListLaws.{get-set_same, length-swap_remove}
-use Rattle.sat_propagate.proofs.PropagatorLaws.{Removes, Replaces, removed_here, if_true, if_false, right_removed, done_removed, done_written, done_more, done_by_blocker, done_longer, right_rewatched, done_rewatched, distinct_from, pair_members, watches_pair, IsFresh}
+use Rattle.sat_propagate.proofs.PropagatorLaws.{Removes, Replaces, removed_here, if_true, if_false, right_removed, done_removed, done_written, done_more, done_by_blocker, done_longer, right_rewatched, done_rewatched, distinct_from, watches_pair, IsFresh}
 
 -- a variable of a clause is made
 pub var_made : (trail : TrailState) (processed : ℕ) (clauses : List Watched) (lists : List WatchPair) (n : ℕ) (watched : Watched) (l : SatLit) → IsPropagator trail processed clauses lists
     → slice_get clauses n ≡ Some watched → holds watched.clause l ≡ true → l.var.0 < length trail.phases
 var_made trail processed clauses lists n watched l right at member = All-held (λ (m : SatLit). m.var.0 < length trail.phases) watched.clause l (right.over n watched at) member
 
--- the other watched literal is in the clause
-pub other_in : (trail : TrailState) (processed : ℕ) (clauses : List Watched) (lists : List WatchPair) (n : ℕ) (watched : Watched) (l other : SatLit) → IsPropagator trail processed clauses lists
-    → slice_get clauses n ≡ Some watched → IsPair watched l other → holds watched.clause other ≡ true
-other_in trail processed clauses lists n watched l other right at pair =
-    let both = right.members n watched at in (pair_members watched l other pair both.0 both.1).1
+-- a watched literal is in the clause
+pub member_in : (trail : TrailState) (processed : ℕ) (clauses : List Watched) (lists : List WatchPair) (n : ℕ) (watched : Watched) (l : SatLit) → IsPropagator trail processed clauses lists
+    → slice_get clauses n ≡ Some watched → Watches watched l → holds watched.clause l ≡ true
+member_in trail processed clauses lists n watched l right at watches =
+    let both = right.members n watched at in
+    elim watches [
+      | inl first ↦ ap (holds watched.clause) (sym first) ∙ both.0
+      | inr second ↦ ap (holds watched.clause) (sym second) ∙ both.1
+    ]
 
 pub length_removed : (before after : List WatchPair) (l : SatLit) (i : ℕ) (entry : Watch) → i < length (watchers before l) → Removes before after l i entry
     → length (watchers after l) + 1 ≡ length (watchers before l)
@@ -53,7 +57,7 @@ next_written trail clauses before after from i entry inside replaces blocked don
 pub found_unit : (trail : TrailState) (processed : ℕ) (clauses : List Watched) (lists : List WatchPair) (n : ℕ) (from l : SatLit) → IsPropagator trail processed clauses lists
     → holds (literals trail.steps) (negated from) ≡ true → (found : FindsUnit (literals trail.steps) (slice_get clauses n) from l) → IsUnitClause (literals trail.steps) found.watched.clause l
 found_unit trail processed clauses lists n from l right falsified found = record {
-  member = other_in trail processed clauses lists n found.watched from l right found.there found.paired;
+  member = member_in trail processed clauses lists n found.watched l right found.there found.named;
   still_open = found.undenied;
   others = λ m h apart. elim (cases_Bool (same_literal m from)) [
     | inl same ↦ ap (λ (k : SatLit). holds (literals trail.steps) (negated k)) (same_literal-true m from same) ∙ falsified
@@ -78,6 +82,16 @@ next_assigned trail after clauses lists from l i entry watched step steps is the
         ∙ ap (λ (list : List SatLit). holds list l) (map-append (λ (s : Step). s.literal) trail.steps (step ∷ []))
         ∙ holds-append (literals trail.steps) (step.literal ∷ []) l
         ∙ or_right (holds (literals trail.steps) l) _ (or_left _ _ (ap (same_literal l) is ∙ same_literal-refl l))
+
+-- the literal beside one that is watched is the other watched one
+pub pair_beside : (watched : Watched) (l other : SatLit) → IsBeside watched l other → Watches watched l → IsPair watched l other
+pair_beside watched l other (inl p) watches = inl p
+pair_beside watched l other (inr p) (inl first) = absurd (p.0 first)
+pair_beside watched l other (inr p) (inr second) = inr (second, p.1)
+
+pub watches_beside : (watched : Watched) (l other : SatLit) → IsBeside watched l other → Watches watched other
+watches_beside watched l other (inl p) = inr p.1
+watches_beside watched l other (inr p) = inl p.1
 
 -- the literal that is watched in place of another is fresh
 pub found_fresh : (trail : TrailState) (clauses after : List Watched) (n : ℕ) (from to other : SatLit) (found : FindsOther (literals trail.steps) (slice_get clauses n) from to)

@@ -220,7 +220,8 @@ impl Propagator {
             return Finding::Satisfied(other);
         }
         match self.replacement(self.clauses.literals(n), other) {
-            Some(literal) => Finding::Other(literal),
+            Some(literal) if self.clauses.watches(n, falsified) => Finding::Other(literal),
+            Some(_) => Finding::Stale,
             None if self.trail.denies(other) => Finding::False,
             None => Finding::Unit(other.literal()),
         }

@@ -25,6 +25,10 @@ IsPair watched l other = ((watched.first ≡ l) × (watched.second ≡ other)) �
 abbrev pub Watches : Watched → SatLit → Type 0
 Watches watched l = (watched.first ≡ l) ⊎ (watched.second ≡ l)
 
+-- of the watched literals, the other one than this where the first is this one, and else the first
+abbrev pub IsBeside : Watched → SatLit → SatLit → Type 0
+IsBeside watched l other = ((watched.first ≡ l) × (watched.second ≡ other)) ⊎ ((watched.first ≢ l) × (watched.first ≡ other))
+
 -- a clause of the list is kept, and its literals are among those of this clause
 pub record IsCovered (starts : List ℕ) (trail : List SatLit) (processed : ℕ) (clauses : List Watched) (clause : List SatLit) : Type 0 where
   pub at : ℕ
