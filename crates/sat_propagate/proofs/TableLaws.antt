@@ -190,6 +190,14 @@ get_or-append_left [] ys i d h = absurd (omega arith)
 get_or-append_left (x ∷ xs) ys zero d h = refl
 get_or-append_left (x ∷ xs) ys (suc i) d h = get_or-append_left xs ys i d (omega arith)
 
+-- two more defaults change no reading
+pub get_or-defaults : {X : Type 0} (xs : List X) (i : ℕ) (d : X) → get_or (xs ++ d ∷ d ∷ []) i d ≡ get_or xs i d
+get_or-defaults [] zero d = refl
+get_or-defaults [] (suc zero) d = refl
+get_or-defaults [] (suc (suc i)) d = refl
+get_or-defaults (x ∷ xs) zero d = refl
+get_or-defaults (x ∷ xs) (suc i) d = get_or-defaults xs i d
+
 -- one more default changes no reading
 pub get_or-default : {X : Type 0} (xs : List X) (i : ℕ) (d : X) → get_or (xs ++ d ∷ []) i d ≡ get_or xs i d
 get_or-default [] zero d = refl
