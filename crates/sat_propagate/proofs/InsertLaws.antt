@@ -1,6 +1,5 @@
 -- What keeps a propagator right where a clause is inserted.
 use Rattle.std.proofs.Common.{◌≡◌, ◌≢◌, ◌⊎◌, inl, inr, ◌<◌, ◌≤◌, ◌+◌, ◌-◌, ◌*◌, ℕ, zero, suc, true, false, List, [], ◌∷◌, ◌++◌, Option, Some, None, length, take, get_or, refl, sym, ap, ◌∙◌, subst, arith, length-append}
-use Rattle.std.specs.Prelude.{if◌then◌else◌}
 use Rattle.std.specs.List.{Contains, slice_get}
 use Rattle.std.proofs.lemmas.Bool.{false≢true, or_left, or_right, cases_Bool, cases_order, false_from_ne_true}
 use Rattle.std.proofs.lemmas.List.{take-take, take_all, length-map, get_or-take, length-take-le, map-append}

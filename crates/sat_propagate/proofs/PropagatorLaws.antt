@@ -21,7 +21,7 @@ use Rattle.sat_laws.proofs.WatchLaws.{AreWithin, kept_push, kept_start, kept_nex
 use Rattle.sat_laws.proofs.TrailLaws.{held_at}
 use Rattle.sat_propagate.specs.Internal.Trail.{TrailState, literals, IsTrail}
 use Rattle.sat_propagate.specs.Internal.WatchLists.{WatchTable, NamesWatches, watchers}
-use Rattle.sat_propagate.specs.Internal.Propagator.{IsReasoned, IsPair, Watches, IsPropagator, IsWatchDone, AreDone, Rewatched, Detaches, IsCovered, Enlists, Grew, texts}
+use Rattle.sat_propagate.specs.Internal.Propagator.{IsReasoned, IsPair, Watches, IsPropagator, IsWatchDone, AreDone, Rewatched, IsCovered, Enlists, Grew, texts}
 use Rattle.sat_propagate.specs.declared.trail.Step.{Step}
 use Rattle.sat_propagate.specs.declared.watch_lists.Watch.{Watch}
 use Rattle.sat_propagate.specs.Internal.ClauseTable.{Watched}

@@ -1,4 +1,4 @@
-use Rattle.std.proofs.Common.{◌≤◌, ◌+◌, ◌*◌, [], ◌∷◌, ◌++◌, false, List, length, length-append, subst, sym, arith}
+use Rattle.std.proofs.Common.{◌≤◌, ◌+◌, ◌*◌, [], ◌∷◌, ◌++◌, false, length, length-append, subst, sym, arith}
 use Rattle.sat_propagate.specs.Internal.Trail.{TrailState}
 use Rattle.sat_propagate.specs.Internal.WatchLists.{WatchTable}
 use Rattle.sat_propagate.specs.Internal.Propagator.{IsPropagator}

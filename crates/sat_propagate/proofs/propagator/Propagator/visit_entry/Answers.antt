@@ -7,7 +7,7 @@ use Rattle.sat_propagate.specs.Internal.Propagator.{IsPropagator, AreDone}
 use Rattle.sat_propagate.specs.declared.watch_lists.Watch.{Watch}
 use Rattle.sat_propagate.specs.Internal.ClauseTable.{Watched}
 use Rattle.sat_propagate.proofs.ListLaws.{unmentioned}
-use Rattle.sat_propagate.proofs.PropagatorLaws.{right_removed, done_removed, right_written, done_more, done_by_blocker, right_assigned}
+use Rattle.sat_propagate.proofs.PropagatorLaws.{right_removed, done_removed, right_written, right_assigned}
 use Rattle.sat_propagate.proofs.EntryLaws.{var_made, member_in, length_removed, length_written, next_written, found_unit, next_assigned, right_moved}
 use Rattle.sat_propagate.proofs.propagator.Propagator.visit_entry.Goals as goal
 
