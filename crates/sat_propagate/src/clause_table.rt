@@ -92,7 +92,8 @@ impl ClauseTable {
         &self.literals[start..start + head.len as usize]
     }
 
-    /// A watched literal of a clause: the other one, where the clause watches this one. None where it watches none, or there is no such clause.
+    /// A watched literal of a clause: the other one, where the clause watches this one. None where it watches none, or there is no
+    /// such clause.
     pub fn other(&self, n: usize, literal: Packed) -> Option<Packed>
         ensures some { IfSome result (λ l. (watched : Watched) × (slice_get self.now.items n ≡ Some watched) × (watched.first ≢ watched.second) × IsBeside watched literal l) }
         ensures none { IfNone result ((watched : Watched) → slice_get self.now.items n ≡ Some watched → watched.first ≡ watched.second) }
