@@ -17,7 +17,7 @@ use Rattle.std.specs.Prelude.{IsSome, Option}
 use Rattle.sat_base.proofs.LiteralLaws.{All-held, All-from_held}
 use Rattle.sat_core.specs.Internal.Learned.{AreNamedPremises, Learns}
 use Rattle.sat_propagate.specs.Internal.Trail.{TrailState}
-use Rattle.sat_propagate.specs.Internal.WatchLists.{WatchPair}
+use Rattle.sat_propagate.specs.Internal.WatchLists.{WatchTable}
 use Rattle.sat_propagate.specs.Internal.Propagator.{IsPropagator, texts}
 use Rattle.sat_core.specs.Internal.Learner.{IsNamedPropagator}
 use Rattle.sat_propagate.specs.declared.propagator.Propagator.{Propagator}
@@ -233,4 +233,4 @@ right_same before after trail processed clauses lists right =
     subst (λ (t : TrailState). IsPropagator t after.processed after.clauses.items after.lists) (sym trail)
     (subst (λ (n : ℕ). IsPropagator before.trail n after.clauses.items after.lists) (sym processed)
     (subst (λ (list : List Watched). IsPropagator before.trail before.processed list after.lists) (sym clauses)
-    (subst (λ (list : List WatchPair). IsPropagator before.trail before.processed before.clauses.items list) (sym lists) right)))
+    (subst (λ (list : WatchTable). IsPropagator before.trail before.processed before.clauses.items list) (sym lists) right)))

@@ -9,14 +9,14 @@ use Rattle.sat_log.specs.Propagation.{IsUnitClause}
 use Rattle.sat_laws.specs.Internal.Watching.{IsKept}
 use Rattle.sat_laws.proofs.WatchLaws.{AreWithin, kept_back}
 use Rattle.sat_propagate.specs.Internal.Trail.{TrailState, literals, IsTrail}
-use Rattle.sat_propagate.specs.Internal.WatchLists.{WatchPair}
+use Rattle.sat_propagate.specs.Internal.WatchLists.{WatchTable}
 use Rattle.sat_propagate.specs.Internal.Propagator.{IsPropagator}
 use Rattle.sat_propagate.specs.declared.trail.Step.{Step}
 use Rattle.sat_propagate.specs.Internal.ClauseTable.{Watched}
 use Rattle.sat_propagate.proofs.ListLaws.{get-take}
 use Rattle.sat_propagate.proofs.TableLaws.{take_literals_is, get_or-any}
 
-pub right_back : (trail : TrailState) (processed : ℕ) (clauses : List Watched) (lists : List WatchPair) (levels s : ℕ) → IsTrail trail → levels < length trail.starts → s ≡ get_or trail.starts levels 0
+pub right_back : (trail : TrailState) (processed : ℕ) (clauses : List Watched) (lists : WatchTable) (levels s : ℕ) → IsTrail trail → levels < length trail.starts → s ≡ get_or trail.starts levels 0
     → IsPropagator trail processed clauses lists → IsPropagator (record { steps = take s trail.steps; starts = take levels trail.starts; phases = trail.phases }) s clauses lists
 right_back trail processed clauses lists levels s whole inside s_is right = record {
   reasoned = λ i step at.
@@ -97,7 +97,7 @@ right_back trail processed clauses lists levels s whole inside s_is right = reco
           ]
         ]
 
-pub right_went_back : (trail after : TrailState) (processed : ℕ) (clauses : List Watched) (lists : List WatchPair) (levels s : ℕ) → IsTrail trail → levels < length trail.starts → slice_get trail.starts levels ≡ Some s
+pub right_went_back : (trail after : TrailState) (processed : ℕ) (clauses : List Watched) (lists : WatchTable) (levels s : ℕ) → IsTrail trail → levels < length trail.starts → slice_get trail.starts levels ≡ Some s
     → after.steps ≡ take (get_or trail.starts levels 0) trail.steps → after.starts ≡ take levels trail.starts → after.phases ≡ trail.phases
     → IsPropagator trail processed clauses lists → IsPropagator after s clauses lists
 right_went_back trail after processed clauses lists levels s whole inside at steps starts phases right =

@@ -1,7 +1,6 @@
 -- Tests and negations of literals by their numbers.
 use Rattle.std.proofs.Common.{◌≡◌, ℕ, ◌+◌, ◌-◌, ◌*◌, ◌/◌, ◌%◌, ◌==◌, Bool, true, false, not, if◌then◌else◌, inl, inr, refl, sym, ap, ◌∙◌, arith}
 use Rattle.std.proofs.lemmas.Bool.{cases_Bool, eqb-true, eqb-false, false_from_ne_true}
-use Rattle.sat_base.specs.declared.literal.SatLit.{SatLit}
 use Rattle.sat_base.specs.Literal.{same_literal, negated}
 use Rattle.sat_base.proofs.LiteralLaws.{same_literal-refl, same_literal-true}
 use Rattle.sat_laws.specs.Internal.Packing.{packed, unpacked}

@@ -1,5 +1,5 @@
 -- A clause is watched no more of which another one is a part.
-use Rattle.std.proofs.Common.{◌≡◌, ◌≢◌, ◌⊎◌, inl, inr, ◌<◌, ℕ, true, false, List, Some, IsTrue, length, take, set, refl, sym, ap, ◌∙◌, subst, arith}
+use Rattle.std.proofs.Common.{◌≡◌, ◌≢◌, ◌⊎◌, inl, inr, ℕ, true, false, List, Some, IsTrue, length, take, set, sym, ap, ◌∙◌, subst, arith}
 use Rattle.std.specs.List.{slice_get}
 use Rattle.std.proofs.lemmas.Bool.{false≢true, cases_order}
 use Rattle.std.proofs.lemmas.Option.{slice_get_within, same_Some}
@@ -8,7 +8,7 @@ use Rattle.sat_base.specs.Literal.{holds, IsOver}
 use Rattle.sat_log.specs.Propagation.{IsUnitClause}
 use Rattle.sat_laws.specs.Internal.Complete.{IsClausePart}
 use Rattle.sat_propagate.specs.Internal.Trail.{TrailState, literals}
-use Rattle.sat_propagate.specs.Internal.WatchLists.{WatchPair}
+use Rattle.sat_propagate.specs.Internal.WatchLists.{WatchTable}
 use Rattle.sat_propagate.specs.Internal.Propagator.{IsPropagator, IsCovered, Detaches, texts}
 use Rattle.sat_propagate.specs.Internal.ClauseTable.{Watched}
 use Rattle.sat_propagate.proofs.ListLaws.{map-set_same, get-set_same, get-set_other}
@@ -41,7 +41,7 @@ detached_cases before after n changed k watched at =
     ]
 
 -- a propagator stays right where the detached clause has a literal that its part doesn't have
-pub right_detached : (trail : TrailState) (processed : ℕ) (before after : List Watched) (lists : List WatchPair) (n m : ℕ) (part : Watched) (l : SatLit) (changed : Detaches before after n)
+pub right_detached : (trail : TrailState) (processed : ℕ) (before after : List Watched) (lists : WatchTable) (n m : ℕ) (part : Watched) (l : SatLit) (changed : Detaches before after n)
     → slice_get before m ≡ Some part → IsClausePart part.clause changed.old.clause → holds changed.old.clause l ≡ true → holds part.clause l ≡ false
     → IsPropagator trail processed before lists → IsPropagator trail processed after lists
 right_detached trail processed before after lists n m part l changed part_there part_among member absent right = record {

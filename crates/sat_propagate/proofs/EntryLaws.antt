@@ -11,37 +11,41 @@ use Rattle.sat_log.specs.Propagation.{IsUnitClause}
 use Rattle.sat_laws.specs.Internal.Complete.{satisfies}
 use Rattle.sat_laws.proofs.CompleteLaws.{satisfied_by}
 use Rattle.sat_propagate.specs.Internal.Trail.{TrailState, literals}
-use Rattle.sat_propagate.specs.Internal.WatchLists.{WatchPair, watchers}
-use Rattle.sat_propagate.specs.Internal.Propagator.{IsPair, Watches, IsPropagator, AreDone, Rewatched, Moves}
+use Rattle.sat_propagate.specs.Internal.WatchLists.{WatchTable, watchers}
+use Rattle.sat_propagate.specs.Internal.Propagator.{IsPair, IsBeside, Watches, IsPropagator, AreDone, Rewatched, Moves}
 use Rattle.sat_propagate.specs.Internal.Finding.{FindsOther, FindsUnit}
 use Rattle.sat_propagate.specs.declared.trail.Step.{Step}
 use Rattle.sat_propagate.specs.declared.watch_lists.Watch.{Watch}
 use Rattle.sat_propagate.specs.Internal.ClauseTable.{Watched}
 use Rattle.sat_propagate.proofs.ListLaws.{get-set_same, length-swap_remove}
-use Rattle.sat_propagate.proofs.PropagatorLaws.{Removes, Replaces, removed_here, if_true, if_false, right_removed, done_removed, done_written, done_more, done_by_blocker, done_longer, right_rewatched, done_rewatched, distinct_from, pair_members, watches_pair, IsFresh}
+use Rattle.sat_propagate.proofs.PropagatorLaws.{Removes, Replaces, removed_here, if_true, if_false, right_removed, done_removed, done_written, done_more, done_by_blocker, done_longer, right_rewatched, done_rewatched, distinct_from, watches_pair, IsFresh}
 
 -- a variable of a clause is made
-pub var_made : (trail : TrailState) (processed : ℕ) (clauses : List Watched) (lists : List WatchPair) (n : ℕ) (watched : Watched) (l : SatLit) → IsPropagator trail processed clauses lists
+pub var_made : (trail : TrailState) (processed : ℕ) (clauses : List Watched) (lists : WatchTable) (n : ℕ) (watched : Watched) (l : SatLit) → IsPropagator trail processed clauses lists
     → slice_get clauses n ≡ Some watched → holds watched.clause l ≡ true → l.var.0 < length trail.phases
 var_made trail processed clauses lists n watched l right at member = All-held (λ (m : SatLit). m.var.0 < length trail.phases) watched.clause l (right.over n watched at) member
 
--- the other watched literal is in the clause
-pub other_in : (trail : TrailState) (processed : ℕ) (clauses : List Watched) (lists : List WatchPair) (n : ℕ) (watched : Watched) (l other : SatLit) → IsPropagator trail processed clauses lists
-    → slice_get clauses n ≡ Some watched → IsPair watched l other → holds watched.clause other ≡ true
-other_in trail processed clauses lists n watched l other right at pair =
-    let both = right.members n watched at in (pair_members watched l other pair both.0 both.1).1
+-- a watched literal is in the clause
+pub member_in : (trail : TrailState) (processed : ℕ) (clauses : List Watched) (lists : WatchTable) (n : ℕ) (watched : Watched) (l : SatLit) → IsPropagator trail processed clauses lists
+    → slice_get clauses n ≡ Some watched → Watches watched l → holds watched.clause l ≡ true
+member_in trail processed clauses lists n watched l right at watches =
+    let both = right.members n watched at in
+    elim watches [
+      | inl first ↦ ap (holds watched.clause) (sym first) ∙ both.0
+      | inr second ↦ ap (holds watched.clause) (sym second) ∙ both.1
+    ]
 
-pub length_removed : (before after : List WatchPair) (l : SatLit) (i : ℕ) (entry : Watch) → i < length (watchers before l) → Removes before after l i entry
+pub length_removed : (before after : WatchTable) (l : SatLit) (i : ℕ) (entry : Watch) → i < length (watchers before l) → Removes before after l i entry
     → length (watchers after l) + 1 ≡ length (watchers before l)
 length_removed before after l i entry inside removes =
     ap (λ (entries : List Watch). length entries + 1) (removed_here before after l i entry removes) ∙ length-swap_remove (watchers before l) i entry inside
 
-pub length_written : (before after : List WatchPair) (l : SatLit) (i : ℕ) (entry : Watch) → Replaces before after l i entry → length (watchers after l) ≡ length (watchers before l)
+pub length_written : (before after : WatchTable) (l : SatLit) (i : ℕ) (entry : Watch) → Replaces before after l i entry → length (watchers after l) ≡ length (watchers before l)
 length_written before after l i entry replaces =
     ap (λ (entries : List Watch). length entries) (replaces l ∙ if_true (same_literal l l) _ _ (same_literal-refl l)) ∙ length-set (watchers before l) i entry
 
 -- a satisfied clause gets its true literal as blocker
-pub next_written : (trail : TrailState) (clauses : List Watched) (before after : List WatchPair) (from : SatLit) (i : ℕ) (entry : Watch) → i < length (watchers before from)
+pub next_written : (trail : TrailState) (clauses : List Watched) (before after : WatchTable) (from : SatLit) (i : ℕ) (entry : Watch) → i < length (watchers before from)
     → Replaces before after from i entry → holds (literals trail.steps) entry.blocker ≡ true → AreDone trail clauses before from i → AreDone trail clauses after from (i + 1)
 next_written trail clauses before after from i entry inside replaces blocked done =
     done_more trail clauses after from i entry
@@ -50,10 +54,10 @@ next_written trail clauses before after from i entry inside replaces blocked don
     (done_written trail clauses before after from i entry replaces done)
 
 -- what `look_at` found as the only open literal follows
-pub found_unit : (trail : TrailState) (processed : ℕ) (clauses : List Watched) (lists : List WatchPair) (n : ℕ) (from l : SatLit) → IsPropagator trail processed clauses lists
+pub found_unit : (trail : TrailState) (processed : ℕ) (clauses : List Watched) (lists : WatchTable) (n : ℕ) (from l : SatLit) → IsPropagator trail processed clauses lists
     → holds (literals trail.steps) (negated from) ≡ true → (found : FindsUnit (literals trail.steps) (slice_get clauses n) from l) → IsUnitClause (literals trail.steps) found.watched.clause l
 found_unit trail processed clauses lists n from l right falsified found = record {
-  member = other_in trail processed clauses lists n found.watched from l right found.there found.paired;
+  member = member_in trail processed clauses lists n found.watched l right found.there found.named;
   still_open = found.undenied;
   others = λ m h apart. elim (cases_Bool (same_literal m from)) [
     | inl same ↦ ap (λ (k : SatLit). holds (literals trail.steps) (negated k)) (same_literal-true m from same) ∙ falsified
@@ -62,7 +66,7 @@ found_unit trail processed clauses lists n from l right falsified found = record
 }
 
 -- and the entry is done then
-pub next_assigned : (trail after : TrailState) (clauses : List Watched) (lists : List WatchPair) (from l : SatLit) (i : ℕ) (entry : Watch) (watched : Watched) (step : Step)
+pub next_assigned : (trail after : TrailState) (clauses : List Watched) (lists : WatchTable) (from l : SatLit) (i : ℕ) (entry : Watch) (watched : Watched) (step : Step)
     → after.steps ≡ trail.steps ++ step ∷ [] → step.literal ≡ l → slice_get (watchers lists from) i ≡ Some entry → slice_get clauses entry.clause ≡ Some watched → holds watched.clause l ≡ true
     → AreDone trail clauses lists from i → AreDone after clauses lists from (i + 1)
 next_assigned trail after clauses lists from l i entry watched step steps is there at member done =
@@ -78,6 +82,16 @@ next_assigned trail after clauses lists from l i entry watched step steps is the
         ∙ ap (λ (list : List SatLit). holds list l) (map-append (λ (s : Step). s.literal) trail.steps (step ∷ []))
         ∙ holds-append (literals trail.steps) (step.literal ∷ []) l
         ∙ or_right (holds (literals trail.steps) l) _ (or_left _ _ (ap (same_literal l) is ∙ same_literal-refl l))
+
+-- the literal beside one that is watched is the other watched one
+pub pair_beside : (watched : Watched) (l other : SatLit) → IsBeside watched l other → Watches watched l → IsPair watched l other
+pair_beside watched l other (inl p) watches = inl p
+pair_beside watched l other (inr p) (inl first) = absurd (p.0 first)
+pair_beside watched l other (inr p) (inr second) = inr (second, p.1)
+
+pub watches_beside : (watched : Watched) (l other : SatLit) → IsBeside watched l other → Watches watched other
+watches_beside watched l other (inl p) = inr p.1
+watches_beside watched l other (inr p) = inl p.1
 
 -- the literal that is watched in place of another is fresh
 pub found_fresh : (trail : TrailState) (clauses after : List Watched) (n : ℕ) (from to other : SatLit) (found : FindsOther (literals trail.steps) (slice_get clauses n) from to)
@@ -112,7 +126,7 @@ idle_after trail before after n from to other changed fresh distinct watched at 
     ]
 
 -- a clause watches another literal, and its entry in the list of the old one is taken out
-pub right_moved : (trail : TrailState) (processed : ℕ) (before after : List Watched) (lists more fewer : List WatchPair) (n : ℕ) (from to : SatLit) (i : ℕ) (entry gone : Watch)
+pub right_moved : (trail : TrailState) (processed : ℕ) (before after : List Watched) (lists more fewer : WatchTable) (n : ℕ) (from to : SatLit) (i : ℕ) (entry gone : Watch)
     → IsPropagator trail processed before lists → (found : FindsOther (literals trail.steps) (slice_get before n) from to) → (moves : Moves before after lists more n from to)
     → slice_get (watchers lists from) i ≡ Some entry → entry.clause ≡ n → slice_get (watchers more from) i ≡ Some gone → Removes more fewer from i gone → length fewer ≡ length more
     → IsPropagator trail processed after fewer × (AreDone trail before lists from i → AreDone trail after fewer from i) × (length (watchers fewer from) + 1 ≡ length (watchers lists from))

@@ -1,5 +1,5 @@
 -- A clause is inserted all of whose literals but one are false, and that one becomes true.
-use Rattle.std.proofs.Common.{◌≡◌, ◌≢◌, ◌⊎◌, inl, inr, ◌<◌, ◌≤◌, ◌+◌, ℕ, true, false, List, [], ◌∷◌, ◌++◌, Some, length, take, get_or, refl, sym, ap, ◌∙◌, subst, arith, length-append}
+use Rattle.std.proofs.Common.{◌≡◌, ◌≢◌, inl, inr, ◌<◌, ◌≤◌, ℕ, true, false, List, [], ◌∷◌, ◌++◌, Some, length, take, get_or, refl, sym, ap, ◌∙◌, subst, arith, length-append}
 use Rattle.std.specs.List.{Contains, slice_get}
 use Rattle.std.proofs.lemmas.Bool.{false≢true, or_left, or_right, cases_order, false_from_ne_true}
 use Rattle.std.proofs.lemmas.List.{take-take, take_all, length-map, length-take-le}
@@ -13,7 +13,7 @@ use Rattle.sat_laws.proofs.CompleteLaws.{satisfied_by}
 use Rattle.sat_laws.specs.Internal.Complete.{satisfies}
 use Rattle.sat_laws.proofs.WatchLaws.{held-take, kept_push}
 use Rattle.sat_propagate.specs.Internal.Trail.{TrailState, literals, IsTrail}
-use Rattle.sat_propagate.specs.Internal.WatchLists.{WatchPair, NamesWatches, watchers}
+use Rattle.sat_propagate.specs.Internal.WatchLists.{WatchTable, NamesWatches, watchers}
 use Rattle.sat_propagate.specs.Internal.Propagator.{IsPropagator, IsCovered, Watches, Enlists}
 use Rattle.sat_propagate.specs.Internal.Insertion.{IsSooner, IsRank}
 use Rattle.sat_propagate.specs.declared.trail.Step.{Step}
@@ -103,7 +103,7 @@ back_denied trail after level place l shorter same later whole rank denied =
     kept past = ap (λ (t : TrailState). holds (literals t.steps) (negated l)) (same past) ∙ denied
 
 -- a literal becomes true by a clause that is pushed at the same time
-pub right_pushed : (trail after : TrailState) (processed n : ℕ) (clauses : List Watched) (lists : List WatchPair) (new : Watched) (l : SatLit) → n ≡ length clauses
+pub right_pushed : (trail after : TrailState) (processed n : ℕ) (clauses : List Watched) (lists : WatchTable) (new : Watched) (l : SatLit) → n ≡ length clauses
     → after.steps ≡ trail.steps ++ record { literal = l; reason = Some n } ∷ [] → after.starts ≡ trail.starts → length after.phases ≡ length trail.phases
     → IsUnitClause (literals trail.steps) new.clause l
     → IsFit (record { steps = trail.steps ++ record { literal = l; reason = Some n } ∷ []; starts = trail.starts; phases = trail.phases }) processed lists n new
@@ -165,7 +165,7 @@ right_pushed trail after processed n clauses lists new l n_is steps starts made 
     }
 
 -- a clause of two literals and more, whose second watched literal is false at no decision
-pub right_forced : (trail after : TrailState) (processed n : ℕ) (clauses : List Watched) (lists more most : List WatchPair) (clause : List SatLit) (first second : SatLit) → n ≡ length clauses
+pub right_forced : (trail after : TrailState) (processed n : ℕ) (clauses : List Watched) (lists more most : WatchTable) (clause : List SatLit) (first second : SatLit) → n ≡ length clauses
     → after.steps ≡ trail.steps ++ record { literal = first; reason = Some n } ∷ [] → after.starts ≡ trail.starts → length after.phases ≡ length trail.phases
     → holds clause second ≡ true → first ≢ second → IsOver (length trail.phases) clause → IsUnitClause (literals trail.steps) clause first
     → ((s : ℕ) → Contains trail.starts s → holds (take s (literals trail.steps)) (negated second) ≡ false)

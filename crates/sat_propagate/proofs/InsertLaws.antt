@@ -1,6 +1,5 @@
 -- What keeps a propagator right where a clause is inserted.
-use Rattle.std.proofs.Common.{◌≡◌, ◌≢◌, ◌⊎◌, inl, inr, ◌<◌, ◌≤◌, ◌+◌, ◌-◌, ℕ, zero, suc, true, false, List, [], ◌∷◌, ◌++◌, Option, Some, None, length, take, get_or, refl, sym, ap, ◌∙◌, subst, arith, length-append}
-use Rattle.std.specs.Prelude.{if◌then◌else◌}
+use Rattle.std.proofs.Common.{◌≡◌, ◌≢◌, ◌⊎◌, inl, inr, ◌<◌, ◌≤◌, ◌+◌, ◌-◌, ◌*◌, ℕ, zero, suc, true, false, List, [], ◌∷◌, ◌++◌, Option, Some, None, length, take, get_or, refl, sym, ap, ◌∙◌, subst, arith, length-append}
 use Rattle.std.specs.List.{Contains, slice_get}
 use Rattle.std.proofs.lemmas.Bool.{false≢true, or_left, or_right, cases_Bool, cases_order, false_from_ne_true}
 use Rattle.std.proofs.lemmas.List.{take-take, take_all, length-map, get_or-take, length-take-le, map-append}
@@ -17,14 +16,15 @@ use Rattle.sat_laws.proofs.CompleteLaws.{satisfied_by}
 use Rattle.sat_laws.proofs.WatchLaws.{held-take, kept_push}
 use Rattle.sat_laws.proofs.AnalysisLaws.{place_below, held_below}
 use Rattle.sat_propagate.specs.Internal.Trail.{TrailState, literals, IsTrail}
-use Rattle.sat_propagate.specs.Internal.WatchLists.{WatchPair, NamesWatches, watchers, no_watches}
+use Rattle.sat_laws.specs.Internal.Packing.{packed}
+use Rattle.sat_propagate.specs.Internal.WatchLists.{WatchTable, NamesWatches, watchers}
 use Rattle.sat_propagate.specs.Internal.Propagator.{IsPropagator, IsCovered, Watches, Enlists, texts}
 use Rattle.sat_propagate.specs.Internal.Insertion.{IsSooner, IsRank, IsBest, IsUnseen}
 use Rattle.sat_propagate.specs.declared.trail.Step.{Step}
 use Rattle.sat_propagate.specs.declared.watch_lists.Watch.{Watch}
 use Rattle.sat_propagate.specs.Internal.ClauseTable.{Watched}
 use Rattle.sat_propagate.proofs.ListLaws.{held_more, unmentioned, no_literal, get-past_seam}
-use Rattle.sat_propagate.proofs.TableLaws.{take_literals_is, get_or-any, get_or-default}
+use Rattle.sat_propagate.proofs.TableLaws.{take_literals_is, get_or-any, get_or-defaults}
 use Rattle.sat_propagate.proofs.PropagatorLaws.{names_longer, names_new, reasoned_longer, starts_within, literals-push}
 
 -- 1. Ranks
@@ -241,7 +241,7 @@ later_start starts level start place some at less =
     let start_is : get_or starts (level - 1) 0 ≡ start = get_or_from_slice_get starts (level - 1) start 0 at in
     omega arith
 
-pub right_lowered : (trail : TrailState) (processed fewer : ℕ) (clauses : List Watched) (lists : List WatchPair) → fewer ≤ processed → ((s : ℕ) → Contains trail.starts s → s ≤ fewer)
+pub right_lowered : (trail : TrailState) (processed fewer : ℕ) (clauses : List Watched) (lists : WatchTable) → fewer ≤ processed → ((s : ℕ) → Contains trail.starts s → s ≤ fewer)
     → IsPropagator trail processed clauses lists → IsPropagator trail fewer clauses lists
 right_lowered trail processed fewer clauses lists less started right = record {
   reasoned = right.reasoned;
@@ -275,7 +275,7 @@ right_lowered trail processed fewer clauses lists less started right = record {
 
 -- 4. One clause more
 
-pub right_enlisted : (trail : TrailState) (processed : ℕ) (clauses : List Watched) (lists more : List WatchPair) (l : SatLit) (entry : Watch) → Enlists lists more l entry → length more ≡ length lists
+pub right_enlisted : (trail : TrailState) (processed : ℕ) (clauses : List Watched) (lists more : WatchTable) (l : SatLit) (entry : Watch) → Enlists lists more l entry → length more ≡ length lists
     → IsPropagator trail processed clauses lists → IsPropagator trail processed clauses more
 right_enlisted trail processed clauses lists more l entry enlists made right = record {
   reasoned = right.reasoned;
@@ -317,13 +317,13 @@ pub cover_new : (starts : List ℕ) (trail : List SatLit) (processed : ℕ) (cla
 cover_new starts trail processed clauses new kept = record { at = length clauses; part = new; there = slice_get-seam clauses new; among = λ l h. h; kept = kept }
 
 -- what a new clause needs
-pub record IsFit (trail : TrailState) (processed : ℕ) (lists : List WatchPair) (n : ℕ) (watched : Watched) : Type 0 where
+pub record IsFit (trail : TrailState) (processed : ℕ) (lists : WatchTable) (n : ℕ) (watched : Watched) : Type 0 where
   pub kept : IsKept trail.starts (literals trail.steps) processed watched.clause watched.first watched.second
   pub members : (holds watched.clause watched.first ≡ true) × (holds watched.clause watched.second ≡ true)
   pub listed : (l : SatLit) → watched.first ≢ watched.second → Watches watched l → NamesWatches (watchers lists l) n watched.clause
   pub over : IsOver (length trail.phases) watched.clause
 
-pub right_inserted : (trail : TrailState) (processed : ℕ) (clauses : List Watched) (lists : List WatchPair) (new : Watched) → IsFit trail processed lists (length clauses) new
+pub right_inserted : (trail : TrailState) (processed : ℕ) (clauses : List Watched) (lists : WatchTable) (new : Watched) → IsFit trail processed lists (length clauses) new
     → IsPropagator trail processed clauses lists → IsPropagator trail processed (clauses ++ new ∷ []) lists
 right_inserted trail processed clauses lists new fit right = record {
   reasoned = λ i step at.
@@ -364,7 +364,7 @@ guarded_unseen starts trail processed clause l unseen = record {
 }
 
 -- a clause is watched whose watched literals are false neither at a decision nor among the processed literals
-pub right_watched : (trail : TrailState) (processed n : ℕ) (clauses : List Watched) (lists more most : List WatchPair) (clause : List SatLit) (first second : SatLit) → n ≡ length clauses
+pub right_watched : (trail : TrailState) (processed n : ℕ) (clauses : List Watched) (lists more most : WatchTable) (clause : List SatLit) (first second : SatLit) → n ≡ length clauses
     → holds clause first ≡ true → holds clause second ≡ true → first ≢ second → IsOver (length trail.phases) clause
     → IsUnseen trail.starts (literals trail.steps) processed first → IsUnseen trail.starts (literals trail.steps) processed second
     → Enlists lists more first (record { clause = n; blocker = second }) → length more ≡ length lists → Enlists more most second (record { clause = n; blocker = first }) → length most ≡ length more
@@ -393,8 +393,8 @@ right_watched trail processed n clauses lists more most clause first second n_is
     }
 
 -- the variables of a new clause are made
-pub literal_made : (trail after : TrailState) (processed : ℕ) (clauses : List Watched) (lists : List WatchPair) (clause : List SatLit) (l : SatLit) → IsOver (length trail.phases) clause → length after.phases ≡ length trail.phases
-    → IsPropagator after processed clauses lists → holds clause l ≡ true → l.var.0 < length lists
+pub literal_made : (trail after : TrailState) (processed : ℕ) (clauses : List Watched) (lists : WatchTable) (clause : List SatLit) (l : SatLit) → IsOver (length trail.phases) clause → length after.phases ≡ length trail.phases
+    → IsPropagator after processed clauses lists → holds clause l ≡ true → l.var.0 * 2 + 1 < length lists
 literal_made trail after processed clauses lists clause l over made right member =
     let below : l.var.0 < length trail.phases = All-held (λ (m : SatLit). m.var.0 < length trail.phases) clause l over member in
     omega (arith, right.lists_made)
@@ -404,7 +404,7 @@ texts_pushed clauses after watched is = ap texts is ∙ map-append (λ (w : Watc
 
 -- 5. A clause with one literal, where there is no decision
 
-pub right_unit : (trail : TrailState) (processed : ℕ) (clauses : List Watched) (lists : List WatchPair) (clause : List SatLit) (l : SatLit) → trail.starts ≡ [] → holds (literals trail.steps) l ≡ true
+pub right_unit : (trail : TrailState) (processed : ℕ) (clauses : List Watched) (lists : WatchTable) (clause : List SatLit) (l : SatLit) → trail.starts ≡ [] → holds (literals trail.steps) l ≡ true
     → holds clause l ≡ true → ((m : SatLit) → holds clause m ≡ true → m ≡ l) → IsOver (length trail.phases) clause
     → IsPropagator trail processed clauses lists → IsPropagator trail processed (clauses ++ record { clause = clause; first = l; second = l } ∷ []) lists
 right_unit trail processed clauses lists clause l root true_now member alone over right =
@@ -419,7 +419,7 @@ right_unit trail processed clauses lists clause l root true_now member alone ove
     no_start s there = let within = there.1 in omega arith
 
 -- a literal becomes true by a clause that is pushed at the same time
-pub right_unit_assigned : (trail after : TrailState) (processed n : ℕ) (clauses : List Watched) (lists : List WatchPair) (clause : List SatLit) (l : SatLit) → n ≡ length clauses
+pub right_unit_assigned : (trail after : TrailState) (processed n : ℕ) (clauses : List Watched) (lists : WatchTable) (clause : List SatLit) (l : SatLit) → n ≡ length clauses
     → after.steps ≡ trail.steps ++ record { literal = l; reason = Some n } ∷ [] → after.starts ≡ trail.starts → length after.phases ≡ length trail.phases
     → trail.starts ≡ [] → holds (literals trail.steps) (negated l) ≡ false → holds clause l ≡ true → ((m : SatLit) → holds clause m ≡ true → m ≡ l) → IsOver (length trail.phases) clause
     → IsPropagator trail processed clauses lists → IsPropagator after processed (clauses ++ record { clause = clause; first = l; second = l } ∷ []) lists
@@ -528,10 +528,10 @@ right_empty = record {
     none_at n x at = cc
 
 -- entries for one more variable change no list
-watchers_more : (lists : List WatchPair) (l : SatLit) → watchers (lists ++ no_watches ∷ []) l ≡ watchers lists l
-watchers_more lists l = ap (λ (pair : WatchPair). if l.positive then pair.positive else pair.negative) (get_or-default lists l.var.0 no_watches)
+watchers_more : (lists : WatchTable) (l : SatLit) → watchers (lists ++ [] ∷ [] ∷ []) l ≡ watchers lists l
+watchers_more lists l = get_or-defaults lists (packed l) []
 
-pub right_more_lists : (trail : TrailState) (processed : ℕ) (clauses : List Watched) (lists : List WatchPair) → IsPropagator trail processed clauses lists → IsPropagator trail processed clauses (lists ++ no_watches ∷ [])
+pub right_more_lists : (trail : TrailState) (processed : ℕ) (clauses : List Watched) (lists : WatchTable) → IsPropagator trail processed clauses lists → IsPropagator trail processed clauses (lists ++ [] ∷ [] ∷ [])
 right_more_lists trail processed clauses lists right = record {
   reasoned = right.reasoned;
   started = right.started;
@@ -540,10 +540,10 @@ right_more_lists trail processed clauses lists right = record {
   members = right.members;
   listed = λ n watched l at apart watches. subst (λ (entries : List Watch). NamesWatches entries n watched.clause) (sym (watchers_more lists l)) (right.listed n watched l at apart watches);
   over = right.over;
-  lists_made = omega (arith, right.lists_made, length-append lists (no_watches ∷ []));
+  lists_made = omega (arith, right.lists_made, length-append lists ([] ∷ [] ∷ []));
 }
 
-pub right_variable : (trail : TrailState) (processed : ℕ) (clauses : List Watched) (lists : List WatchPair) → length trail.phases < length lists → IsPropagator trail processed clauses lists
+pub right_variable : (trail : TrailState) (processed : ℕ) (clauses : List Watched) (lists : WatchTable) → length trail.phases * 2 + 2 ≤ length lists → IsPropagator trail processed clauses lists
     → IsPropagator (record { steps = trail.steps; starts = trail.starts; phases = trail.phases ++ false ∷ [] }) processed clauses lists
 right_variable trail processed clauses lists room right = record {
   reasoned = λ i step at. let r = right.reasoned i step at in record { decided = r.decided; forced = r.forced };

@@ -20,7 +20,7 @@ use Rattle.sat_laws.specs.Internal.Watching.{IsKept}
 use Rattle.sat_laws.proofs.CompleteLaws.{consistent_once}
 use Rattle.sat_laws.proofs.WatchLaws.{kept_at, kept_now, held-take}
 use Rattle.sat_propagate.specs.Internal.Trail.{TrailState, literals, IsTrail, IsPhased}
-use Rattle.sat_propagate.specs.Internal.WatchLists.{WatchPair}
+use Rattle.sat_propagate.specs.Internal.WatchLists.{WatchTable}
 use Rattle.sat_propagate.specs.Internal.Propagator.{IsPropagator, IsCovered, texts}
 use Rattle.sat_propagate.specs.declared.trail.Step.{Step}
 use Rattle.sat_propagate.specs.Internal.ClauseTable.{Watched}
@@ -58,7 +58,7 @@ part_unit trail part clause l among unit not_false = record {
   others = λ m h apart. unit.others m (among m h) apart;
 }
 
-pub complete_at : (trail : TrailState) (processed : ℕ) (clauses : List Watched) (lists : List WatchPair) (s : ℕ) → IsPropagator trail processed clauses lists → IsTrail trail → Contains trail.starts s
+pub complete_at : (trail : TrailState) (processed : ℕ) (clauses : List Watched) (lists : WatchTable) (s : ℕ) → IsPropagator trail processed clauses lists → IsTrail trail → Contains trail.starts s
     → IsComplete (texts clauses) (take s (literals trail.steps))
 complete_at trail processed clauses lists s right whole at = record {
   none_false = λ clause there each.
@@ -76,7 +76,7 @@ complete_at trail processed clauses lists s right whole at = record {
         → (IsFalseIn (take s (literals trail.steps)) cover.part.clause → ⊥) × ((l : SatLit) → IsUnitClause (take s (literals trail.steps)) cover.part.clause l → holds (take s (literals trail.steps)) l ≡ true)
     kept cover = kept_at trail.starts (literals trail.steps) processed cover.part.clause cover.part.first cover.part.second s at (consistent_part (literals trail.steps) s whole.once) cover.kept
 
-pub complete_now : (trail : TrailState) (processed : ℕ) (clauses : List Watched) (lists : List WatchPair) → IsPropagator trail processed clauses lists → IsTrail trail → processed ≡ length trail.steps
+pub complete_now : (trail : TrailState) (processed : ℕ) (clauses : List Watched) (lists : WatchTable) → IsPropagator trail processed clauses lists → IsTrail trail → processed ≡ length trail.steps
     → IsComplete (texts clauses) (literals trail.steps)
 complete_now trail processed clauses lists right whole all = record {
   none_false = λ clause there each.
@@ -103,7 +103,7 @@ value_of false true e = absurd (false≢true e)
 value_of false false e = refl
 
 -- where each variable has a value and nothing is left to process, the phases make every clause true
-pub values_true : (trail : TrailState) (processed : ℕ) (clauses : List Watched) (lists : List WatchPair) → IsPropagator trail processed clauses lists → IsTrail trail → IsPhased trail
+pub values_true : (trail : TrailState) (processed : ℕ) (clauses : List Watched) (lists : WatchTable) → IsPropagator trail processed clauses lists → IsTrail trail → IsPhased trail
     → processed ≡ length trail.steps → ((v : Var) → v.0 < length trail.phases → mentions_variable (literals trail.steps) v ≢ false) → AllTrue (assigned trail.phases) (texts clauses)
 values_true trail processed clauses lists right whole phased all full =
     All-weaker (Contains (texts clauses)) (λ clause. IsTrue (clause_value (assigned trail.phases) clause)) holds_each (texts clauses) (All-contains_itself (texts clauses))

@@ -20,8 +20,8 @@ use Rattle.sat_laws.proofs.CompleteLaws.{satisfied_by, satisfies-more}
 use Rattle.sat_laws.proofs.WatchLaws.{AreWithin, kept_push, kept_start, kept_next, kept_rewatched, kept_from_pair, kept_to_pair}
 use Rattle.sat_laws.proofs.TrailLaws.{held_at}
 use Rattle.sat_propagate.specs.Internal.Trail.{TrailState, literals, IsTrail}
-use Rattle.sat_propagate.specs.Internal.WatchLists.{WatchPair, NamesWatches, watchers}
-use Rattle.sat_propagate.specs.Internal.Propagator.{IsReasoned, IsPair, Watches, IsPropagator, IsWatchDone, AreDone, Rewatched, Detaches, IsCovered, Enlists, Grew, texts}
+use Rattle.sat_propagate.specs.Internal.WatchLists.{WatchTable, NamesWatches, watchers}
+use Rattle.sat_propagate.specs.Internal.Propagator.{IsReasoned, IsPair, Watches, IsPropagator, IsWatchDone, AreDone, Rewatched, IsCovered, Enlists, Grew, texts}
 use Rattle.sat_propagate.specs.declared.trail.Step.{Step}
 use Rattle.sat_propagate.specs.declared.watch_lists.Watch.{Watch}
 use Rattle.sat_propagate.specs.Internal.ClauseTable.{Watched}
@@ -36,19 +36,19 @@ if_false true x y e = absurd (false≢true (sym e))
 if_false false x y e = refl
 
 -- the lists where an entry of a literal's list is taken out
-abbrev pub Removes : List WatchPair → List WatchPair → SatLit → ℕ → Watch → Type 0
+abbrev pub Removes : WatchTable → WatchTable → SatLit → ℕ → Watch → Type 0
 Removes before after l i entry = (m : SatLit) → watchers after m ≡ (if same_literal l m then swap_remove (watchers before m) i entry else watchers before m)
 
 -- the lists where an entry of a literal's list is put in the place of another
-abbrev pub Replaces : List WatchPair → List WatchPair → SatLit → ℕ → Watch → Type 0
+abbrev pub Replaces : WatchTable → WatchTable → SatLit → ℕ → Watch → Type 0
 Replaces before after l i entry = (m : SatLit) → watchers after m ≡ (if same_literal l m then set (watchers before m) i entry else watchers before m)
 
-pub removed_here : (before after : List WatchPair) (l : SatLit) (i : ℕ) (entry : Watch) → Removes before after l i entry → watchers after l ≡ swap_remove (watchers before l) i entry
+pub removed_here : (before after : WatchTable) (l : SatLit) (i : ℕ) (entry : Watch) → Removes before after l i entry → watchers after l ≡ swap_remove (watchers before l) i entry
 removed_here before after l i entry r = r l ∙ if_true (same_literal l l) _ _ (same_literal-refl l)
 
 -- 1. An entry is taken out that names no clause which watches the literal
 
-names_after_removal : (clauses : List Watched) (before after : List WatchPair) (from : SatLit) (i : ℕ) (entry : Watch) → i < length (watchers before from) → slice_get (watchers before from) i ≡ Some entry
+names_after_removal : (clauses : List Watched) (before after : WatchTable) (from : SatLit) (i : ℕ) (entry : Watch) → i < length (watchers before from) → slice_get (watchers before from) i ≡ Some entry
     → ((watched : Watched) → slice_get clauses entry.clause ≡ Some watched → watched.first ≢ watched.second → Watches watched from → ⊥) → Removes before after from i entry
     → (n : ℕ) (watched : Watched) (l : SatLit) → slice_get clauses n ≡ Some watched → watched.first ≢ watched.second → Watches watched l → NamesWatches (watchers before l) n watched.clause → NamesWatches (watchers after l) n watched.clause
 names_after_removal clauses before after from i entry inside there idle removes n watched l at apart watches names =
@@ -70,7 +70,7 @@ names_after_removal clauses before after from i entry inside there idle removes 
         let list : watchers after l ≡ swap_remove (watchers before l) i entry = removes l ∙ if_true (same_literal from l) _ _ (subst (λ (m : SatLit). same_literal from m ≡ true) e (same_literal-refl from)) in
         record { at = kept.0; entry = names.entry; there = ap (λ (entries : List Watch). slice_get entries kept.0) list ∙ kept.1; named = names.named; blocks = names.blocks }
 
-pub right_removed : (trail : TrailState) (processed : ℕ) (clauses : List Watched) (before after : List WatchPair) (from : SatLit) (i : ℕ) (entry : Watch)
+pub right_removed : (trail : TrailState) (processed : ℕ) (clauses : List Watched) (before after : WatchTable) (from : SatLit) (i : ℕ) (entry : Watch)
     → i < length (watchers before from) → slice_get (watchers before from) i ≡ Some entry
     → ((watched : Watched) → slice_get clauses entry.clause ≡ Some watched → watched.first ≢ watched.second → Watches watched from → ⊥) → Removes before after from i entry → length after ≡ length before
     → IsPropagator trail processed clauses before → IsPropagator trail processed clauses after
@@ -85,7 +85,7 @@ right_removed trail processed clauses before after from i entry inside there idl
   lists_made = omega (arith, made, right.lists_made);
 }
 
-pub done_removed : (trail : TrailState) (clauses : List Watched) (before after : List WatchPair) (from : SatLit) (i : ℕ) (entry : Watch) → i < length (watchers before from) → Removes before after from i entry
+pub done_removed : (trail : TrailState) (clauses : List Watched) (before after : WatchTable) (from : SatLit) (i : ℕ) (entry : Watch) → i < length (watchers before from) → Removes before after from i entry
     → AreDone trail clauses before from i → AreDone trail clauses after from i
 done_removed trail clauses before after from i entry inside removes done k other below at =
     done k other below (sym (ap (λ (entries : List Watch). slice_get entries k) (removed_here before after from i entry removes)
@@ -93,7 +93,7 @@ done_removed trail clauses before after from i entry inside removes done k other
 
 -- 2. An entry gets another blocker of its clause
 
-names_after_write : (clauses : List Watched) (before after : List WatchPair) (from : SatLit) (i : ℕ) (old entry : Watch) → i < length (watchers before from) → slice_get (watchers before from) i ≡ Some old
+names_after_write : (clauses : List Watched) (before after : WatchTable) (from : SatLit) (i : ℕ) (old entry : Watch) → i < length (watchers before from) → slice_get (watchers before from) i ≡ Some old
     → old.clause ≡ entry.clause → ((watched : Watched) → slice_get clauses entry.clause ≡ Some watched → holds watched.clause entry.blocker ≡ true) → Replaces before after from i entry
     → (n : ℕ) (watched : Watched) (l : SatLit) → slice_get clauses n ≡ Some watched → NamesWatches (watchers before l) n watched.clause → NamesWatches (watchers after l) n watched.clause
 names_after_write clauses before after from i old entry inside there same_clause blocks replaces n watched l at names =
@@ -129,7 +129,7 @@ names_after_write clauses before after from i old entry inside there same_clause
     here e (inr (inl before_it)) = elsewhere e (omega arith)
     here e (inr (inr after_it)) = elsewhere e (omega arith)
 
-pub right_written : (trail : TrailState) (processed : ℕ) (clauses : List Watched) (before after : List WatchPair) (from : SatLit) (i : ℕ) (old entry : Watch)
+pub right_written : (trail : TrailState) (processed : ℕ) (clauses : List Watched) (before after : WatchTable) (from : SatLit) (i : ℕ) (old entry : Watch)
     → i < length (watchers before from) → slice_get (watchers before from) i ≡ Some old → old.clause ≡ entry.clause
     → ((watched : Watched) → slice_get clauses entry.clause ≡ Some watched → holds watched.clause entry.blocker ≡ true) → Replaces before after from i entry → length after ≡ length before
     → IsPropagator trail processed clauses before → IsPropagator trail processed clauses after
@@ -145,7 +145,7 @@ right_written trail processed clauses before after from i old entry inside there
 }
 
 -- one more entry is done, where its clause is true if it is its clause's
-pub done_more : (trail : TrailState) (clauses : List Watched) (lists : List WatchPair) (from : SatLit) (i : ℕ) (entry : Watch) → slice_get (watchers lists from) i ≡ Some entry
+pub done_more : (trail : TrailState) (clauses : List Watched) (lists : WatchTable) (from : SatLit) (i : ℕ) (entry : Watch) → slice_get (watchers lists from) i ≡ Some entry
     → IsWatchDone trail clauses from entry → AreDone trail clauses lists from i → AreDone trail clauses lists from (i + 1)
 done_more trail clauses lists from i entry there done before k other below at =
     elim (cases_order k i) [
@@ -160,7 +160,7 @@ done_more trail clauses lists from i entry there done before k other below at =
 pub done_by_blocker : (trail : TrailState) (clauses : List Watched) (from : SatLit) (entry : Watch) → holds (literals trail.steps) entry.blocker ≡ true → IsWatchDone trail clauses from entry
 done_by_blocker trail clauses from entry blocked watched at watches member = satisfied_by (literals trail.steps) watched.clause entry.blocker member blocked
 
-pub done_written : (trail : TrailState) (clauses : List Watched) (before after : List WatchPair) (from : SatLit) (i : ℕ) (entry : Watch) → Replaces before after from i entry
+pub done_written : (trail : TrailState) (clauses : List Watched) (before after : WatchTable) (from : SatLit) (i : ℕ) (entry : Watch) → Replaces before after from i entry
     → AreDone trail clauses before from i → AreDone trail clauses after from i
 done_written trail clauses before after from i entry replaces done k other below at =
     let apart : k ≢ i = omega arith in
@@ -228,7 +228,7 @@ reasoned_longer trail phases clauses last step n watched reason there unit reaso
           }
     ]
 
-right_longer : (trail : TrailState) (phases : List Bool) (processed : ℕ) (clauses : List Watched) (lists : List WatchPair) (n : ℕ) (watched : Watched) (l : SatLit)
+right_longer : (trail : TrailState) (phases : List Bool) (processed : ℕ) (clauses : List Watched) (lists : WatchTable) (n : ℕ) (watched : Watched) (l : SatLit)
     → length phases ≡ length trail.phases → slice_get clauses n ≡ Some watched → IsUnitClause (literals trail.steps) watched.clause l
     → IsPropagator trail processed clauses lists → IsPropagator (record { steps = trail.steps ++ record { literal = l; reason = Some n } ∷ []; starts = trail.starts; phases = phases }) processed clauses lists
 right_longer trail phases processed clauses lists n watched l made there unit right = record {
@@ -254,7 +254,7 @@ right_longer trail phases processed clauses lists n watched l made there unit ri
   lists_made = omega (arith, made, right.lists_made);
 }
 
-pub right_assigned : (trail after : TrailState) (processed : ℕ) (clauses : List Watched) (lists : List WatchPair) (n : ℕ) (watched : Watched) (l : SatLit)
+pub right_assigned : (trail after : TrailState) (processed : ℕ) (clauses : List Watched) (lists : WatchTable) (n : ℕ) (watched : Watched) (l : SatLit)
     → after.steps ≡ trail.steps ++ record { literal = l; reason = Some n } ∷ [] → after.starts ≡ trail.starts → length after.phases ≡ length trail.phases
     → slice_get clauses n ≡ Some watched → IsUnitClause (literals trail.steps) watched.clause l
     → IsPropagator trail processed clauses lists → IsPropagator after processed clauses lists
@@ -272,7 +272,7 @@ right_assigned trail after processed clauses lists n watched l steps starts made
     longer = right_longer trail after.phases processed clauses lists n watched l made there unit right
 
 -- entries that are done stay so where the trail grows
-pub done_longer : (trail : TrailState) (more : List Step) (after : TrailState) (clauses : List Watched) (lists : List WatchPair) (from : SatLit) (i : ℕ) → after.steps ≡ trail.steps ++ more
+pub done_longer : (trail : TrailState) (more : List Step) (after : TrailState) (clauses : List Watched) (lists : WatchTable) (from : SatLit) (i : ℕ) → after.steps ≡ trail.steps ++ more
     → AreDone trail clauses lists from i → AreDone after clauses lists from i
 done_longer trail more after clauses lists from i steps done k entry below at watched there watches member =
     subst (λ (list : List Step). satisfies (literals list) watched.clause ≡ true) (sym steps)
@@ -284,7 +284,7 @@ done_longer trail more after clauses lists from i steps done k entry below at wa
 -- 4. Another literal is watched
 
 -- the names in a list are still there in a longer one
-pub names_longer : (lists more : List WatchPair) (to l : SatLit) (entry : Watch) (n : ℕ) (clause : List SatLit) → Enlists lists more to entry
+pub names_longer : (lists more : WatchTable) (to l : SatLit) (entry : Watch) (n : ℕ) (clause : List SatLit) → Enlists lists more to entry
     → NamesWatches (watchers lists l) n clause → NamesWatches (watchers more l) n clause
 names_longer lists more to l entry n clause enlists names =
     elim (cases_Bool (same_literal to l)) [
@@ -299,7 +299,7 @@ names_longer lists more to l entry n clause enlists names =
       | inr other ↦ subst (λ (entries : List Watch). NamesWatches entries n clause) (sym (enlists l ∙ if_false (same_literal to l) _ _ other)) names
     ]
 
-pub names_new : (lists more : List WatchPair) (to blocker : SatLit) (n : ℕ) (clause : List SatLit) → Enlists lists more to (record { clause = n; blocker = blocker })
+pub names_new : (lists more : WatchTable) (to blocker : SatLit) (n : ℕ) (clause : List SatLit) → Enlists lists more to (record { clause = n; blocker = blocker })
     → holds clause blocker ≡ true → NamesWatches (watchers more to) n clause
 names_new lists more to blocker n clause enlists member = record {
   at = length (watchers lists to);
@@ -349,7 +349,7 @@ pub record IsFresh (trail : TrailState) (clause : List SatLit) (from to other : 
   pub apart : to ≢ other
   pub undenied : holds (literals trail.steps) (negated to) ≡ false
 
-pub right_rewatched : (trail : TrailState) (processed : ℕ) (before after : List Watched) (lists more : List WatchPair) (n : ℕ) (from to other : SatLit)
+pub right_rewatched : (trail : TrailState) (processed : ℕ) (before after : List Watched) (lists more : WatchTable) (n : ℕ) (from to other : SatLit)
     (changed : Rewatched before after n from to other) → Enlists lists more to (record { clause = n; blocker = other }) → length more ≡ length lists
     → IsFresh trail changed.old.clause from to other → changed.old.first ≢ changed.old.second
     → IsPropagator trail processed before lists → IsPropagator trail processed after more
@@ -457,7 +457,7 @@ pub distinct_from : (watched : Watched) (from other : SatLit) → IsPair watched
 distinct_from watched from other (inl p) apart e = apart (p.0 ∙ e ∙ sym p.1)
 distinct_from watched from other (inr p) apart e = apart (p.1 ∙ sym e ∙ sym p.0)
 
-pub done_rewatched : (trail : TrailState) (before after : List Watched) (lists more : List WatchPair) (n : ℕ) (from to other : SatLit)
+pub done_rewatched : (trail : TrailState) (before after : List Watched) (lists more : WatchTable) (n : ℕ) (from to other : SatLit)
     (changed : Rewatched before after n from to other) → Enlists lists more to (record { clause = n; blocker = other }) → to ≢ from → from ≢ other
     → (i : ℕ) → AreDone trail before lists from i → AreDone trail after more from i
 done_rewatched trail before after lists more n from to other changed enlists new apart i done k entry below at watched there watches member =
@@ -489,14 +489,14 @@ rewatched_by_write before after n from to other old new was written text pair pa
 
 -- 5. One more literal is processed
 
-listed_true : (trail : TrailState) (processed : ℕ) (clauses : List Watched) (lists : List WatchPair) (falsified : SatLit) (n : ℕ) (watched : Watched) → IsPropagator trail processed clauses lists
+listed_true : (trail : TrailState) (processed : ℕ) (clauses : List Watched) (lists : WatchTable) (falsified : SatLit) (n : ℕ) (watched : Watched) → IsPropagator trail processed clauses lists
     → AreDone trail clauses lists falsified (length (watchers lists falsified)) → slice_get clauses n ≡ Some watched → watched.first ≢ watched.second → Watches watched falsified
     → satisfies (literals trail.steps) watched.clause ≡ true
 listed_true trail processed clauses lists falsified n watched right done at apart watches =
     let names = right.listed n watched falsified at apart watches in
     done names.at names.entry (slice_get_within (watchers lists falsified) names.at names.entry names.there) names.there watched (ap (slice_get clauses) names.named ∙ at) watches names.blocks
 
-pub right_next : (trail : TrailState) (processed : ℕ) (clauses : List Watched) (lists : List WatchPair) (step : Step) (falsified : SatLit) → IsPropagator trail processed clauses lists
+pub right_next : (trail : TrailState) (processed : ℕ) (clauses : List Watched) (lists : WatchTable) (step : Step) (falsified : SatLit) → IsPropagator trail processed clauses lists
     → slice_get trail.steps processed ≡ Some step → falsified ≡ negated step.literal → AreDone trail clauses lists falsified (length (watchers lists falsified))
     → IsPropagator trail (processed + 1) clauses lists
 right_next trail processed clauses lists step falsified right at is done = record {
@@ -593,7 +593,7 @@ at_in_longer trail after clauses others i step grew at = ap (λ (list : List Ste
 reason_is_none : (step : Step) (n : ℕ) → step.reason ≡ None → step.reason ≡ Some n → ⊥
 reason_is_none step n e f = none_is_no_number n (sym f ∙ e)
 
-pub right_decided : (trail after : TrailState) (processed : ℕ) (clauses : List Watched) (lists : List WatchPair) (l : SatLit)
+pub right_decided : (trail after : TrailState) (processed : ℕ) (clauses : List Watched) (lists : WatchTable) (l : SatLit)
     → after.steps ≡ trail.steps ++ record { literal = l; reason = None } ∷ [] → after.starts ≡ trail.starts ++ length trail.steps ∷ [] → length after.phases ≡ length trail.phases
     → processed ≡ length trail.steps → IsPropagator trail processed clauses lists → IsPropagator after processed clauses lists
 right_decided trail after processed clauses lists l steps starts made whole right =

@@ -11,12 +11,12 @@ use Rattle.std.proofs.lemmas.Option.{slice_get_within, slice_get-map, slice_get-
 use Rattle.std.proofs.Math.ListN.{get_or-map}
 use Rattle.sat_base.specs.declared.literal.Var.{Var}
 use Rattle.sat_base.specs.declared.literal.SatLit.{SatLit}
-use Rattle.sat_base.specs.Literal.{literal, same_var, same_literal, holds, mentions_variable, HoldsNoVariableTwice, IsOver}
+use Rattle.sat_base.specs.Literal.{literal, negated, same_var, same_literal, holds, mentions_variable, HoldsNoVariableTwice, IsOver}
 use Rattle.sat_laws.specs.Internal.Packing.{packed, unpacked}
 use Rattle.sat_laws.proofs.PackingLaws.{unpacked-packed}
 use Rattle.sat_base.proofs.LiteralLaws.{same_literal-refl, same_literal-true, same_literal-comm, same_var-refl, same_var-true, holds-append, mentions-held, All-held, All-from_held}
 use Rattle.sat_laws.proofs.TrailLaws.{held_at}
-use Rattle.sat_propagate.specs.Internal.Trail.{TrailState, literals, open_cell, cell_of, is_true_in, is_true_by, SetsValue, AreValues, IsTabled, IsTrail, IsTrailInside}
+use Rattle.sat_propagate.specs.Internal.Trail.{TrailState, literals, open_cell, cell_of, is_true_in, is_true_by, SetsValue, AreDenials, AreValues, IsTabled, IsTrail, IsTrailInside}
 use Rattle.sat_propagate.specs.declared.trail.Step.{Step}
 use Rattle.sat_propagate.specs.declared.trail.Cell.{Cell}
 use Rattle.sat_propagate.proofs.ListLaws.{get-take, map-set_same, unmentioned}
@@ -189,6 +189,14 @@ pub get_or-append_left : {X : Type 0} (xs ys : List X) (i : ℕ) (d : X) → i <
 get_or-append_left [] ys i d h = absurd (omega arith)
 get_or-append_left (x ∷ xs) ys zero d h = refl
 get_or-append_left (x ∷ xs) ys (suc i) d h = get_or-append_left xs ys i d (omega arith)
+
+-- two more defaults change no reading
+pub get_or-defaults : {X : Type 0} (xs : List X) (i : ℕ) (d : X) → get_or (xs ++ d ∷ d ∷ []) i d ≡ get_or xs i d
+get_or-defaults [] zero d = refl
+get_or-defaults [] (suc zero) d = refl
+get_or-defaults [] (suc (suc i)) d = refl
+get_or-defaults (x ∷ xs) zero d = refl
+get_or-defaults (x ∷ xs) (suc i) d = get_or-defaults xs i d
 
 -- one more default changes no reading
 pub get_or-default : {X : Type 0} (xs : List X) (i : ℕ) (d : X) → get_or (xs ++ d ∷ []) i d ≡ get_or xs i d
@@ -452,6 +460,13 @@ byte_written values l value inside = record {
   where
     packed_same : (l m : SatLit) → packed l ≡ packed m → l ≡ m
     packed_same l m e = sym (unpacked-packed l) ∙ ap unpacked e ∙ unpacked-packed m
+
+-- two literals more, which are not false
+pub denied_longer : (denials values : List Bool) → AreDenials denials values → AreDenials (denials ++ false ∷ false ∷ []) (values ++ false ∷ false ∷ [])
+denied_longer denials values right = record {
+  same = λ l. get_or-defaults denials (packed l) false ∙ right.same l ∙ sym (get_or-defaults values (packed (negated l)) false);
+  made = omega (arith, right.made, length-append denials (false ∷ false ∷ []), length-append values (false ∷ false ∷ []));
+}
 
 pub number_below : (l : SatLit) → packed l < l.var.0 * 2 + 2
 number_below l = go l.positive

@@ -1,5 +1,5 @@
 //! Clauses with their watched literals.
-ghost use Rattle.std.specs.Prelude.{◌≡◌, ◌≢◌, ◌<◌, ◌++◌, [], ◌∷◌, List, length, Some, slice_get, OnOk, OnErr, IfSome, IfNone};
+ghost use Rattle.std.specs.Prelude.{◌≡◌, ◌≢◌, ◌<◌, ◌++◌, [], ◌∷◌, IsTrue, false, List, length, Some, slice_get, OnOk, OnErr, IfSome, IfNone};
 ghost use Rattle.sat_base.specs.declared.literal.SatLit.{SatLit};
 ghost use Rattle.sat_propagate.specs.Internal.ClauseTable.{Watched};
 
@@ -19,7 +19,18 @@ pub struct Head {
 
 impl Head {
     ghost use Rattle.sat_propagate.specs.Internal.ClauseTable.{with_head};
-    ghost use Rattle.sat_propagate.specs.Internal.Propagator.{IsPair};
+    ghost use Rattle.sat_propagate.specs.Internal.Propagator.{IsPair, IsBeside};
+
+    /// The second literal where the first is this one, and else the first.
+    fn beside(&self, literal: Packed) -> Packed
+        ensures { (literals : List SatLit) → IsBeside (with_head literals self.now) literal result }
+    {
+        if self.first.is(literal) {
+            self.second
+        } else {
+            self.first
+        }
+    }
 
     /// Watches a literal in place of another one.
     fn replace(&mut self, from: Packed, to: Packed)
@@ -54,7 +65,7 @@ impl Model for ClauseTable {
 }
 
 impl ClauseTable {
-    ghost use Rattle.sat_propagate.specs.Internal.Propagator.{IsPair, Watches, Rewatched, Detaches};
+    ghost use Rattle.sat_propagate.specs.Internal.Propagator.{IsPair, Watches, IsBeside, Rewatched, Detaches};
 
     pub fn new(alloc: Global) -> Self
         ensures { result.items ≡ [] }
@@ -81,23 +92,28 @@ impl ClauseTable {
         &self.literals[start..start + head.len as usize]
     }
 
-    /// The other watched literal of a clause that watches this one. None where it doesn't, or there is no such clause.
+    /// A watched literal of a clause: the other one, where the clause watches this one. None where it watches none, or there is no
+    /// such clause.
     pub fn other(&self, n: usize, literal: Packed) -> Option<Packed>
-        ensures some { IfSome result (λ l. (watched : Watched) × (slice_get self.now.items n ≡ Some watched) × (watched.first ≢ watched.second) × IsPair watched literal l) }
-        ensures none { IfNone result ((watched : Watched) → slice_get self.now.items n ≡ Some watched → watched.first ≢ watched.second → (watched.first ≢ literal) × (watched.second ≢ literal)) }
+        ensures some { IfSome result (λ l. (watched : Watched) × (slice_get self.now.items n ≡ Some watched) × (watched.first ≢ watched.second) × IsBeside watched literal l) }
+        ensures none { IfNone result ((watched : Watched) → slice_get self.now.items n ≡ Some watched → watched.first ≡ watched.second) }
     {
         let head = self.heads.get(n)?;
         let is_detached = head.first.is(head.second);
         if is_detached {
             return None;
         }
-        if head.first.is(literal) {
-            Some(head.second)
-        } else if head.second.is(literal) {
-            Some(head.first)
-        } else {
-            None
-        }
+        Some(head.beside(literal))
+    }
+
+    /// Whether a clause watches a literal.
+    pub fn watches(&self, n: usize, literal: Packed) -> bool
+        requires { n < length self.now.items }
+        ensures yes { IsTrue result → (watched : Watched) → slice_get self.now.items n ≡ Some watched → Watches watched literal }
+        ensures no { result ≡ false → (watched : Watched) → slice_get self.now.items n ≡ Some watched → (watched.first ≢ literal) × (watched.second ≢ literal) }
+    {
+        let head = &self.heads[n];
+        head.first.is(literal) || head.second.is(literal)
     }
 
     /// The other watched literal of a clause that watches this one.

@@ -1,5 +1,5 @@
 //! Unit propagation over clauses with two watched literals each.
-ghost use Rattle.std.specs.Prelude.{◌≡◌, ◌≢◌, ◌⊎◌, ◌<◌, ◌≤◌, [], ◌∷◌, ◌++◌, ◌+◌, ◌^◌, ℕ, Some, None, Option, IsTrue, true, false, length, map, take, slice_get, slice_index_or, IfOk, IfSome, IfNone, OnOk, OnErr, MatchOption};
+ghost use Rattle.std.specs.Prelude.{◌≡◌, ◌≢◌, ◌⊎◌, ◌<◌, ◌≤◌, [], ◌∷◌, ◌++◌, ◌+◌, ◌*◌, ◌^◌, ℕ, Some, None, Option, IsTrue, true, false, length, map, take, slice_get, slice_index_or, IfOk, IfSome, IfNone, OnOk, OnErr, MatchOption};
 ghost use Rattle.std.specs.List.{All, Contains};
 ghost use Rattle.sat_base.specs.declared.literal.SatLit.{SatLit};
 ghost use Rattle.sat_base.specs.Literal.{holds, negated, mentions_variable, IsOver};
@@ -154,7 +154,7 @@ impl Propagator {
 
     /// The first entry of a literal, from a number on, whose blocker is not true.
     fn next_entry(&self, falsified: Packed, from: usize) -> Option<usize>
-        requires { falsified.var.0 < length self.now.lists }
+        requires { falsified.var.0 * 2 + 1 < length self.now.lists }
         ensures later { IfSome result (λ at. from ≤ at) }
         ensures inside { IfSome result (λ at. at < length (watchers self.now.lists falsified)) }
         ensures done { IfSome result (λ at. AreDone self.now.trail self.now.clauses.items self.now.lists falsified from → AreDone self.now.trail self.now.clauses.items self.now.lists falsified at) }
@@ -220,7 +220,8 @@ impl Propagator {
             return Finding::Satisfied(other);
         }
         match self.replacement(self.clauses.literals(n), other) {
-            Some(literal) => Finding::Other(literal),
+            Some(literal) if self.clauses.watches(n, falsified) => Finding::Other(literal),
+            Some(_) => Finding::Stale,
             None if self.trail.denies(other) => Finding::False,
             None => Finding::Unit(other.literal()),
         }
@@ -249,7 +250,7 @@ impl Propagator {
     /// Watches a literal in place of another one.
     fn watch_other(&mut self, n: u32, from: Packed, to: Packed) -> Result<(), AllocError>
         requires found { FindsOther (literals self.old.trail.steps) (slice_get self.old.clauses.items n) from to }
-        requires made { to.var.0 < length self.old.lists }
+        requires made { to.var.0 * 2 + 1 < length self.old.lists }
         ensures moved { OnOk result (Moves self.old.clauses.items self.new.clauses.items self.old.lists self.new.lists n from to) }
         ensures clauses_kept { OnErr result (self.new.clauses.items ≡ self.old.clauses.items) }
         ensures lists_kept { OnErr result (self.new.lists ≡ self.old.lists) }

@@ -3,27 +3,54 @@
 use crate::packed::Packed;
 use std::alloc::{AllocError, Global};
 
-// How many clauses are kept.
-const MOST: usize = 1000;
+// So many signatures are tested at once.
+const BLOCK: usize = 8;
+
+// How many blocks of clauses are kept.
+const MOST: usize = 125;
 
 // By this number the numbers of literals are spread over the bits of a signature.
 const SPREAD: usize = 0x9E37_79B1;
+
+/// The bits that some clauses don't have.
+#[derive(Clone, Copy)]
+struct Block {
+    absent: [u64; BLOCK],
+}
+
+impl Block {
+    // A block without clauses: what has all bits absent is never found.
+    const EMPTY: Block = Block {
+        absent: [u64::MAX; BLOCK],
+    };
+
+    /// Whether some clause of the block has all of these bits. Where a number is 0, and only there, the one before it has a
+    /// bit at the top that the number lacks.
+    fn has(&self, bits: u64) -> bool {
+        let mut tops = 0;
+        for absent in &self.absent {
+            let lacking = bits & *absent;
+            tops |= lacking.wrapping_sub(1) & !lacking;
+        }
+        tops >> 63 == 1
+    }
+}
 
 /// The clauses that were learned last, by their numbers. Each literal has one of 64 bits, and a clause the bits of its literals: where one
 /// clause is a part of another one, so are its bits. Kept are the bits that a clause doesn't have. Nothing rests on what is found.
 #[derive(Drop)]
 pub struct Recent {
-    absent: Vec<u64>,
+    blocks: Vec<Block>,
     clauses: Vec<usize>,
-    oldest: usize,
+    next: usize,
 }
 
 impl Recent {
     pub fn new(alloc: Global) -> Self {
         Recent {
-            absent: Vec::new(alloc),
+            blocks: Vec::new(alloc),
             clauses: Vec::new(alloc),
-            oldest: 0,
+            next: 0,
         }
     }
 
@@ -35,31 +62,50 @@ impl Recent {
         found: &mut Vec<usize>,
     ) -> Result<(), AllocError> {
         let bits = bits_of(literals);
-        for i in 0..self.absent.len() {
-            if bits & self.absent[i] == 0 {
-                if let Some(clause) = self.clauses.get(i) {
-                    found.push(*clause)?;
-                }
+        for at in 0..self.blocks.len() {
+            if self.blocks[at].has(bits) {
+                self.find_in_block(at, bits, found)?;
             }
         }
         self.keep(new, !bits)
     }
 
+    /// Appends the clauses of a block that have all of these bits to a list.
+    fn find_in_block(
+        &self,
+        at: usize,
+        bits: u64,
+        found: &mut Vec<usize>,
+    ) -> Result<(), AllocError> {
+        let Some(block) = self.blocks.get(at) else {
+            return Ok(());
+        };
+        let numbers = self.clauses.iter().skip(at.wrapping_mul(BLOCK));
+        for (absent, clause) in block.absent.iter().zip(numbers) {
+            if bits & *absent == 0 {
+                found.push(*clause)?;
+            }
+        }
+        Ok(())
+    }
+
     /// Keeps a clause, in the place of the oldest one where there is no room.
     fn keep(&mut self, clause: usize, absent: u64) -> Result<(), AllocError> {
-        if self.clauses.len() < MOST {
-            self.absent.reserve(1)?;
+        let at = self.next / BLOCK;
+        let slot = self.next % BLOCK;
+        if at >= self.blocks.len() {
+            self.blocks.push(Block::EMPTY)?;
+        }
+        if self.next >= self.clauses.len() {
             self.clauses.push(clause)?;
-            self.absent.push_reserved(absent);
-            return Ok(());
         }
-        if let Some(slot) = self.absent.get_mut(self.oldest) {
-            *slot = absent;
+        if let Some(number) = self.clauses.get_mut(self.next) {
+            *number = clause;
         }
-        if let Some(slot) = self.clauses.get_mut(self.oldest) {
-            *slot = clause;
+        if let Some(block) = self.blocks.get_mut(at) {
+            block.absent[slot] = absent;
         }
-        self.oldest = self.oldest.wrapping_add(1) % MOST;
+        self.next = self.next.wrapping_add(1) % (MOST * BLOCK);
         Ok(())
     }
 }

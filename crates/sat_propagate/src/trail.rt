@@ -144,7 +144,7 @@ impl Trail {
     pub fn denies(&self, literal: Packed) -> bool
         ensures { result ≡ holds (literals self.now.steps) (negated literal) }
     {
-        self.values.get(literal.negated())
+        self.values.denies(literal)
     }
 
     pub fn is_open(&self, var: Var) -> bool

@@ -1,6 +1,7 @@
 //! Which literals are true.
 ghost use Rattle.std.specs.Prelude.{◌≡◌, ◌<◌, ◌+◌, ◌*◌, [], length, OnOk, OnErr};
 ghost use Rattle.sat_base.specs.declared.literal.SatLit.{SatLit};
+ghost use Rattle.sat_base.specs.Literal.{negated};
 ghost use Rattle.sat_propagate.specs.Internal.Trail.{is_true_by, SetsValue};
 
 use crate::packed::{Packed, number_of};
@@ -8,18 +9,22 @@ use sat_base::SatLit;
 use std::alloc::{AllocError, Global};
 use std::marker::Model;
 
-/// A byte for each literal, by its number as it is packed: whether it is true.
+/// A byte for each literal, by its number as it is packed: whether it is true. And one more: whether it is false.
 #[derive(Drop)]
 pub struct Values {
     bytes: Vec<bool>,
+    denials: Vec<bool>,
 }
 
 impl Model for Values {
     ghost use Rattle.std.specs.Prelude.{Bool, List};
+    ghost use Rattle.sat_propagate.specs.Internal.Trail.{AreDenials};
 
     ghost Value = { List Bool };
 
     ghost view = { λ values. values.bytes.items };
+
+    ghost invariant = { λ values. AreDenials values.denials.items values.bytes.items };
 }
 
 impl Values {
@@ -28,6 +33,7 @@ impl Values {
     {
         Values {
             bytes: Vec::new(alloc),
+            denials: Vec::new(alloc),
         }
     }
 
@@ -38,6 +44,9 @@ impl Values {
         ensures err { OnErr result (self.new ≡ self.old) }
     {
         self.bytes.reserve(2)?;
+        self.denials.reserve(2)?;
+        self.denials.push_reserved(false);
+        self.denials.push_reserved(false);
         self.bytes.push_reserved(false);
         self.bytes.push_reserved(false);
         Ok(())
@@ -53,6 +62,16 @@ impl Values {
         }
     }
 
+    /// Whether a literal is false.
+    pub fn denies(&self, literal: Packed) -> bool
+        ensures { result ≡ is_true_by self.now (negated literal) }
+    {
+        match self.denials.get(literal.number()) {
+            Some(value) => *value,
+            None => false,
+        }
+    }
+
     /// Makes a literal true or not true.
     pub fn set(&mut self, literal: SatLit, value: bool)
         requires { literal.var.0 * 2 + 1 < length self.old }
@@ -60,6 +79,8 @@ impl Values {
     {
         let _made = self.bytes.len();
         let at = number_of(literal);
+        let opposite = number_of(literal.negated());
         self.bytes[at] = value;
+        self.denials[opposite] = value;
     }
 }

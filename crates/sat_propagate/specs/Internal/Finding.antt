@@ -2,7 +2,7 @@
 use Rattle.std.specs.Prelude.{◌≡◌, ◌≢◌, IsTrue, false, List, Option, Some}
 use Rattle.sat_base.specs.declared.literal.SatLit.{SatLit}
 use Rattle.sat_base.specs.Literal.{negated, holds}
-use Rattle.sat_propagate.specs.Internal.Propagator.{IsPair}
+use Rattle.sat_propagate.specs.Internal.Propagator.{IsPair, Watches}
 use Rattle.sat_propagate.specs.Internal.ClauseTable.{Watched}
 use Rattle.sat_propagate.specs.declared.propagator.Finding.{Finding}
 use Rattle.sat_propagate.specs.declared.propagator.Finding.TheVariants.{Stale, Satisfied, Other, Unit as OnlyOpen, False as AllFalse}
@@ -14,7 +14,7 @@ AreOthersFalse literals clause a b = (l : SatLit) → IsTrue (holds clause l) �
 pub record FindsTrue (literals : List SatLit) (found : Option Watched) (falsified l : SatLit) : Type 0 where
   pub watched : Watched
   pub there : found ≡ Some watched
-  pub paired : IsPair watched falsified l
+  pub named : Watches watched l
   pub true_now : IsTrue (holds literals l)
 
 pub record FindsOther (literals : List SatLit) (found : Option Watched) (falsified l : SatLit) : Type 0 where
@@ -31,7 +31,7 @@ pub record FindsOther (literals : List SatLit) (found : Option Watched) (falsifi
 pub record FindsUnit (literals : List SatLit) (found : Option Watched) (falsified l : SatLit) : Type 0 where
   pub watched : Watched
   pub there : found ≡ Some watched
-  pub paired : IsPair watched falsified l
+  pub named : Watches watched l
   pub untrue : holds literals l ≡ false
   pub undenied : holds literals (negated l) ≡ false
   pub rest : AreOthersFalse literals watched.clause falsified l
@@ -40,7 +40,6 @@ pub record FindsFalse (literals : List SatLit) (found : Option Watched) (falsifi
   pub watched : Watched
   pub there : found ≡ Some watched
   pub other : SatLit
-  pub paired : IsPair watched falsified other
   pub denied : IsTrue (holds literals (negated other))
   pub rest : AreOthersFalse literals watched.clause falsified other
 

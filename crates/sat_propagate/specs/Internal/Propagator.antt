@@ -1,5 +1,5 @@
 -- What is true of a propagator, fact by fact.
-use Rattle.std.specs.Prelude.{◌≡◌, ◌≢◌, ◌⊎◌, ◌<◌, ◌≤◌, ℕ, IsTrue, List, [], ◌∷◌, ◌++◌, if◌then◌else◌, Some, None, map, length, take, slice_get}
+use Rattle.std.specs.Prelude.{◌≡◌, ◌≢◌, ◌⊎◌, ◌<◌, ◌≤◌, ◌*◌, ℕ, IsTrue, List, [], ◌∷◌, ◌++◌, if◌then◌else◌, Some, None, map, length, take, slice_get}
 use Rattle.std.specs.List.{All, Contains}
 use Rattle.sat_base.specs.declared.literal.SatLit.{SatLit}
 use Rattle.sat_base.specs.Literal.{same_literal, holds, IsOver}
@@ -7,7 +7,7 @@ use Rattle.sat_log.specs.Propagation.{IsUnitClause, IsFalseIn}
 use Rattle.sat_laws.specs.Internal.Complete.{satisfies, IsClausePart}
 use Rattle.sat_laws.specs.Internal.Watching.{IsKept}
 use Rattle.sat_propagate.specs.Internal.Trail.{TrailState, literals}
-use Rattle.sat_propagate.specs.Internal.WatchLists.{WatchPair, NamesWatches, watchers}
+use Rattle.sat_propagate.specs.Internal.WatchLists.{WatchTable, NamesWatches, watchers}
 use Rattle.sat_propagate.specs.declared.trail.Step.{Step}
 use Rattle.sat_propagate.specs.declared.watch_lists.Watch.{Watch}
 use Rattle.sat_propagate.specs.Internal.ClauseTable.{Watched}
@@ -25,6 +25,10 @@ IsPair watched l other = ((watched.first ≡ l) × (watched.second ≡ other)) �
 abbrev pub Watches : Watched → SatLit → Type 0
 Watches watched l = (watched.first ≡ l) ⊎ (watched.second ≡ l)
 
+-- of the watched literals, the other one than this where the first is this one, and else the first
+abbrev pub IsBeside : Watched → SatLit → SatLit → Type 0
+IsBeside watched l other = ((watched.first ≡ l) × (watched.second ≡ other)) ⊎ ((watched.first ≢ l) × (watched.first ≡ other))
+
 -- a clause of the list is kept, and its literals are among those of this clause
 pub record IsCovered (starts : List ℕ) (trail : List SatLit) (processed : ℕ) (clauses : List Watched) (clause : List SatLit) : Type 0 where
   pub at : ℕ
@@ -34,7 +38,7 @@ pub record IsCovered (starts : List ℕ) (trail : List SatLit) (processed : ℕ)
   pub kept : IsKept starts trail processed part.clause part.first part.second
 
 -- the facts that hold of a propagator between any two calls. A clause watches two literals, or one, named twice, which no list has
-pub record IsPropagator (trail : TrailState) (processed : ℕ) (clauses : List Watched) (lists : List WatchPair) : Type 0 where
+pub record IsPropagator (trail : TrailState) (processed : ℕ) (clauses : List Watched) (lists : WatchTable) : Type 0 where
   pub reasoned : (i : ℕ) (step : Step) → slice_get trail.steps i ≡ Some step → IsReasoned clauses trail i step
   pub started : All (λ s. s ≤ processed) trail.starts
   pub processed_within : processed ≤ length trail.steps
@@ -42,7 +46,7 @@ pub record IsPropagator (trail : TrailState) (processed : ℕ) (clauses : List W
   pub members : (n : ℕ) (watched : Watched) → slice_get clauses n ≡ Some watched → IsTrue (holds watched.clause watched.first) × IsTrue (holds watched.clause watched.second)
   pub listed : (n : ℕ) (watched : Watched) (l : SatLit) → slice_get clauses n ≡ Some watched → watched.first ≢ watched.second → Watches watched l → NamesWatches (watchers lists l) n watched.clause
   pub over : (n : ℕ) (watched : Watched) → slice_get clauses n ≡ Some watched → IsOver (length trail.phases) watched.clause
-  pub lists_made : length trail.phases ≤ length lists
+  pub lists_made : length trail.phases * 2 ≤ length lists
 
 -- the texts of some clauses
 abbrev pub texts : List Watched → List (List SatLit)
@@ -54,7 +58,7 @@ IsWatchDone trail clauses l entry =
     (watched : Watched) → slice_get clauses entry.clause ≡ Some watched → Watches watched l → IsTrue (holds watched.clause entry.blocker) → IsTrue (satisfies (literals trail.steps) watched.clause)
 
 -- the first entries of a literal's list are done
-abbrev pub AreDone : TrailState → List Watched → List WatchPair → SatLit → ℕ → Type 0
+abbrev pub AreDone : TrailState → List Watched → WatchTable → SatLit → ℕ → Type 0
 AreDone trail clauses lists l i = (k : ℕ) (entry : Watch) → k < i → slice_get (watchers lists l) k ≡ Some entry → IsWatchDone trail clauses l entry
 
 -- the trail only grew, at its end and with no decision, and the clauses are the same
@@ -96,12 +100,12 @@ pub record Detaches (before after : List Watched) (n : ℕ) : Type 0 where
   pub texts_same : texts after ≡ texts before
 
 -- the lists with one entry more for a literal
-abbrev pub Enlists : List WatchPair → List WatchPair → SatLit → Watch → Type 0
+abbrev pub Enlists : WatchTable → WatchTable → SatLit → Watch → Type 0
 Enlists before after l entry =
     (m : SatLit) → watchers after m ≡ (if same_literal l m then watchers before m ++ entry ∷ [] else watchers before m)
 
 -- a clause watches a literal in place of another one, and is in its list
-pub record Moves (before after : List Watched) (lists more : List WatchPair) (n : ℕ) (from to : SatLit) : Type 0 where
+pub record Moves (before after : List Watched) (lists more : WatchTable) (n : ℕ) (from to : SatLit) : Type 0 where
   pub other : SatLit
   pub changed : Rewatched before after n from to other
   pub enlists : Enlists lists more to (record { clause = n; blocker = other })

@@ -4,7 +4,7 @@ use Rattle.std.specs.Bool.{beq}
 use Rattle.std.specs.List.{All}
 use Rattle.sat_base.specs.declared.literal.Var.{Var}
 use Rattle.sat_base.specs.declared.literal.SatLit.{SatLit}
-use Rattle.sat_base.specs.Literal.{same_literal, holds, HoldsNoVariableTwice, IsOver}
+use Rattle.sat_base.specs.Literal.{negated, same_literal, holds, HoldsNoVariableTwice, IsOver}
 use Rattle.sat_laws.specs.Internal.Packing.{packed}
 use Rattle.sat_propagate.specs.declared.trail.Step.{Step}
 use Rattle.sat_propagate.specs.declared.trail.Cell.{Cell}
@@ -38,6 +38,11 @@ is_true_by values l = slice_index_or values (packed l) false
 pub record SetsValue (before after : List Bool) (l : SatLit) (value : Bool) : Type 0 where
   pub values : (m : SatLit) → is_true_by after m ≡ (if same_literal l m then value else is_true_by before m)
   pub made : length after ≡ length before
+
+-- a table of bytes says that a literal is false where the other one says that its negation is true
+pub record AreDenials (denials values : List Bool) : Type 0 where
+  pub same : (l : SatLit) → is_true_by denials l ≡ is_true_by values (negated l)
+  pub made : length denials ≡ length values
 
 -- a table of bytes says of each literal what the cells say, and has two for each of them
 pub record AreValues (values : List Bool) (cells : List Cell) : Type 0 where

@@ -1,9 +1,9 @@
-use Rattle.std.proofs.Common.{◌≡◌, ◌<◌, List, Some, length, set, refl, sym, ap, ◌∙◌, arith}
+use Rattle.std.proofs.Common.{◌≡◌, ◌<◌, Some, length, set, refl, sym, ap, ◌∙◌, arith}
 use Rattle.std.specs.List.{slice_get}
 use Rattle.std.specs.Option.{option_map}
 use Rattle.std.proofs.lemmas.List.{map-set, length-map}
 use Rattle.std.proofs.lemmas.Option.{slice_get-map, slice_get-get_or}
-use Rattle.sat_propagate.specs.Internal.ClauseTable.{Watched, Clauses, with_head}
+use Rattle.sat_propagate.specs.Internal.ClauseTable.{Clauses, with_head}
 use Rattle.sat_propagate.specs.declared.clause_table.Head.{Head}
 use Rattle.sat_propagate.proofs.DetachLaws.{detached_by_write}
 use Rattle.sat_propagate.proofs.clause_table.ClauseTable.detach.Goals as goal

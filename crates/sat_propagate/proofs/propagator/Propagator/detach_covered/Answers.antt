@@ -1,9 +1,8 @@
-use Rattle.std.proofs.Common.{◌≡◌, ◌<◌, inl, inr, true, false, List, length, subst, sym, ap, ◌∙◌, ◌-◌, arith}
+use Rattle.std.proofs.Common.{◌≡◌, inl, inr, List, subst, sym, ap, ◌∙◌, ◌-◌, arith}
 use Rattle.std.proofs.lemmas.Option.{slice_get_cases}
 use Rattle.sat_base.specs.declared.literal.SatLit.{SatLit}
 use Rattle.sat_base.specs.Literal.{holds}
 use Rattle.sat_laws.specs.Internal.Complete.{IsClausePart}
-use Rattle.sat_propagate.specs.Internal.ClauseTable.{Watched}
 use Rattle.sat_propagate.proofs.DetachLaws.{right_detached}
 use Rattle.sat_propagate.proofs.propagator.Propagator.detach_covered.Goals as goal
 

@@ -1,6 +1,4 @@
-use Rattle.std.proofs.Common.{◌≢◌, IsTrue, length, sym, subst, ap, ◌∙◌}
-use Rattle.sat_base.specs.declared.literal.SatLit.{SatLit}
-use Rattle.sat_base.specs.Literal.{IsOver}
+use Rattle.std.proofs.Common.{sym, subst}
 use Rattle.sat_propagate.specs.Internal.Trail.{literals}
 use Rattle.sat_propagate.specs.Internal.Insertion.{IsSooner}
 use Rattle.sat_propagate.proofs.ForcedLaws.{unit_after, sooner_take}

@@ -1,9 +1,9 @@
-use Rattle.std.proofs.Common.{◌≡◌, ◌<◌, ◌++◌, [], ◌∷◌, List, length, refl, subst, sym, ap, ◌∙◌, arith}
+use Rattle.std.proofs.Common.{◌≡◌, ◌<◌, ◌+◌, ◌*◌, ◌++◌, [], ◌∷◌, List, length, refl, subst, sym, ap, ◌∙◌, arith}
 use Rattle.sat_base.specs.declared.literal.SatLit.{SatLit}
 use Rattle.sat_base.proofs.LiteralLaws.{All-held}
 use Rattle.sat_propagate.specs.Internal.Trail.{TrailState}
 use Rattle.sat_propagate.specs.Internal.Propagator.{IsPropagator, Enlists}
-use Rattle.sat_propagate.specs.Internal.WatchLists.{WatchPair}
+use Rattle.sat_propagate.specs.Internal.WatchLists.{WatchTable}
 use Rattle.sat_propagate.specs.Internal.ClauseTable.{Watched, Clauses}
 use Rattle.sat_propagate.proofs.ClauseTableLaws.{same_watched}
 use Rattle.sat_propagate.proofs.InsertLaws.{literal_made, right_enlisted}
@@ -18,13 +18,13 @@ push-requires c =
 pub push-requires-2 : goal.push-requires-2
 push-requires-2 c =
     let s = c.args.self.now in
-    let made : c.args.second.var.0 < length s.lists = literal_made s.trail s.trail s.processed s.clauses.items s.lists c.args.clause.now c.args.second c.requires.over refl c.requires.right c.requires.second in
+    let made : c.args.second.var.0 * 2 + 1 < length s.lists = literal_made s.trail s.trail s.processed s.clauses.items s.lists c.args.clause.now c.args.second c.requires.over refl c.requires.right c.requires.second in
     omega (arith, c.push.ensures.made)
 
 pub returns-in_err-push-2-clause-right : goal.returns-in_err-push-2-clause-right
 returns-in_err-push-2-clause-right c =
     let s = c.args.self.now in
-    subst (λ (lists : List WatchPair). IsPropagator s.trail s.processed s.clauses.items lists) (sym c.in_err-push-2.ensures.err)
+    subst (λ (lists : WatchTable). IsPropagator s.trail s.processed s.clauses.items lists) (sym c.in_err-push-2.ensures.err)
     (right_enlisted s.trail s.processed s.clauses.items s.lists c.push.new.self c.args.first (record { clause = c.in_ok-n.n; blocker = c.in_ok-other.other }) c.in_ok-push.ensures.ok c.push.ensures.made c.requires.right)
 
 pub returns-in_err-push-3-clause-right : goal.returns-in_err-push-3-clause-right

@@ -1,8 +1,8 @@
-use Rattle.std.proofs.Common.{◌≡◌, ◌<◌, ◌++◌, [], ◌∷◌, ℕ, List, length, subst, sym, ap, ◌∙◌, arith}
+use Rattle.std.proofs.Common.{◌≡◌, ◌<◌, ◌+◌, ◌*◌, ◌++◌, [], ◌∷◌, ℕ, List, length, subst, sym, ap, ◌∙◌, arith}
 use Rattle.sat_base.specs.declared.literal.SatLit.{SatLit}
 use Rattle.sat_base.specs.Literal.{IsOver}
 use Rattle.sat_propagate.specs.Internal.Propagator.{IsPropagator, Enlists}
-use Rattle.sat_propagate.specs.Internal.WatchLists.{WatchPair}
+use Rattle.sat_propagate.specs.Internal.WatchLists.{WatchTable}
 use Rattle.sat_propagate.specs.Internal.ClauseTable.{Watched, Clauses}
 use Rattle.sat_propagate.proofs.ClauseTableLaws.{same_watched}
 use Rattle.sat_propagate.proofs.InsertLaws.{literal_made, right_enlisted, right_watched}
@@ -16,14 +16,14 @@ push-requires c =
 pub push-requires-2 : goal.push-requires-2
 push-requires-2 c =
     let room = c.make_room.new.self in
-    let made : c.args.second.var.0 < length room.lists =
+    let made : c.args.second.var.0 * 2 + 1 < length room.lists =
     literal_made c.args.self.now.trail room.trail room.processed room.clauses.items room.lists c.args.clause.now c.args.second c.requires.over c.make_room.ensures.made c.make_room.ensures.right c.requires.second in
     omega (arith, c.push.ensures.made)
 
 pub returns-in_err-push-2-clause-right : goal.returns-in_err-push-2-clause-right
 returns-in_err-push-2-clause-right c =
     let room = c.make_room.new.self in
-    subst (λ (lists : List WatchPair). IsPropagator room.trail room.processed room.clauses.items lists) (sym c.in_err-push-2.ensures.err)
+    subst (λ (lists : WatchTable). IsPropagator room.trail room.processed room.clauses.items lists) (sym c.in_err-push-2.ensures.err)
     (right_enlisted room.trail room.processed room.clauses.items room.lists c.push.new.self c.args.first (record { clause = c.in_ok-n.n; blocker = c.in_ok-other.other }) c.in_ok-push.ensures.ok c.push.ensures.made
     c.make_room.ensures.right)
 

@@ -1,4 +1,4 @@
-use Rattle.std.proofs.Common.{◌≢◌, inl, inr, get_or, IsTrue, subst, sym, ◌∙◌}
+use Rattle.std.proofs.Common.{◌≢◌, inl, inr, get_or, IsTrue, subst, sym}
 use Rattle.sat_base.specs.declared.literal.SatLit.{SatLit}
 use Rattle.sat_base.specs.Literal.{holds, negated}
 use Rattle.sat_propagate.specs.Internal.Trail.{literals}

@@ -7,8 +7,8 @@ use Rattle.sat_propagate.specs.Internal.Propagator.{IsPropagator, AreDone}
 use Rattle.sat_propagate.specs.declared.watch_lists.Watch.{Watch}
 use Rattle.sat_propagate.specs.Internal.ClauseTable.{Watched}
 use Rattle.sat_propagate.proofs.ListLaws.{unmentioned}
-use Rattle.sat_propagate.proofs.PropagatorLaws.{right_removed, done_removed, right_written, done_more, done_by_blocker, right_assigned}
-use Rattle.sat_propagate.proofs.EntryLaws.{var_made, other_in, length_removed, length_written, next_written, found_unit, next_assigned, right_moved}
+use Rattle.sat_propagate.proofs.PropagatorLaws.{right_removed, done_removed, right_written, right_assigned}
+use Rattle.sat_propagate.proofs.EntryLaws.{var_made, member_in, length_removed, length_written, next_written, found_unit, next_assigned, right_moved}
 use Rattle.sat_propagate.proofs.propagator.Propagator.visit_entry.Goals as goal
 
 pub watch_other-requires-clause-made : goal.watch_other-requires-clause-made
@@ -22,7 +22,7 @@ pub assign-requires-clause-made : goal.assign-requires-clause-made
 assign-requires-clause-made c =
     let found = c.in-Unit.ensures in
     var_made c.args.self.now.trail c.args.self.now.processed c.args.self.now.clauses.items c.args.self.now.lists _ found.watched c.in-Unit.literal c.requires.right found.there
-    (other_in c.args.self.now.trail c.args.self.now.processed c.args.self.now.clauses.items c.args.self.now.lists _ found.watched c.args.falsified c.in-Unit.literal c.requires.right found.there found.paired)
+    (member_in c.args.self.now.trail c.args.self.now.processed c.args.self.now.clauses.items c.args.self.now.lists _ found.watched c.in-Unit.literal c.requires.right found.there found.named)
 
 pub assign-requires-clause-undecided : goal.assign-requires-clause-undecided
 assign-requires-clause-undecided c =
@@ -52,7 +52,7 @@ returns-in-Satisfied-clause-right c =
     (record { clause = c.entry-watch.result.clause; blocker = c.in-Satisfied.blocker })
     c.requires.there c.entry-watch.ensures refl
     (λ watched at. subst (λ (w : Watched). holds w.clause c.in-Satisfied.blocker ≡ true) (same_Some _ _ (sym found.there ∙ at))
-    (other_in c.args.self.now.trail c.args.self.now.processed c.args.self.now.clauses.items c.args.self.now.lists _ found.watched c.args.falsified c.in-Satisfied.blocker c.requires.right found.there found.paired))
+    (member_in c.args.self.now.trail c.args.self.now.processed c.args.self.now.clauses.items c.args.self.now.lists _ found.watched c.in-Satisfied.blocker c.requires.right found.there found.named))
     c.set.ensures.entries c.set.ensures.made c.requires.right
 
 pub returns-in-Satisfied-clause-next : goal.returns-in-Satisfied-clause-next
@@ -98,5 +98,5 @@ returns-in_ok-assign-in-Unit-clause-next c = λ e.
       λ done. next_assigned c.args.self.now.trail c.assign.new.self c.args.self.now.clauses.items c.args.self.now.lists c.args.falsified c.in-Unit.literal c.args.i c.entry-watch.result found.watched
           (record { literal = c.in-Unit.literal; reason = Some c.entry-watch.result.clause })
           c.in_ok-assign-in-Unit.ensures.steps refl c.entry-watch.ensures found.there
-          (other_in c.args.self.now.trail c.args.self.now.processed c.args.self.now.clauses.items c.args.self.now.lists c.entry-watch.result.clause found.watched c.args.falsified c.in-Unit.literal c.requires.right found.there found.paired) done,
+          (member_in c.args.self.now.trail c.args.self.now.processed c.args.self.now.clauses.items c.args.self.now.lists c.entry-watch.result.clause found.watched c.in-Unit.literal c.requires.right found.there found.named) done,
     )

@@ -1,4 +1,4 @@
-use Rattle.std.proofs.Common.{sym, ap, ◌∙◌}
+use Rattle.std.proofs.Common.{ap, ◌∙◌}
 use Rattle.sat_base.specs.Literal.{holds}
 use Rattle.sat_propagate.specs.Internal.Trail.{TrailState, literals}
 use Rattle.sat_propagate.proofs.trail.Trail.affirms.Goals as goal

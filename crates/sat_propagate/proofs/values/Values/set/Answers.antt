@@ -1,4 +1,4 @@
-use Rattle.std.proofs.Common.{◌≡◌, ◌<◌, ℕ, List, Bool, set, length, sym, subst, ap, ◌∙◌, arith}
+use Rattle.std.proofs.Common.{◌≡◌, ◌<◌, ℕ, List, Bool, set, length, sym, subst, ap, arith}
 use Rattle.sat_laws.specs.Internal.Packing.{packed}
 use Rattle.sat_propagate.specs.Internal.Trail.{SetsValue}
 use Rattle.sat_propagate.proofs.TableLaws.{byte_written, number_below}
