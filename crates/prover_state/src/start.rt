@@ -39,6 +39,7 @@ fn empty_tables(alloc: Global, basis: Basis, offers: Offers, offered: Offered) -
         terms: Enumerator::new(alloc),
         chosen: IdSet::new(alloc),
         described: IdSet::new(alloc),
+        walked: IdSet::new(alloc),
         offers,
         bases,
         names,
