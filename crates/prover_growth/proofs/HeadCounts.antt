@@ -99,8 +99,8 @@ module _ (t : Tables) (q : Queue Planned Delays) (r : IsRightState t q) (p : ℕ
   pub first-base-at : p < length (sketches_in t) → (b : Option ℕ) → ((holes : List Hole) → slice_get t.open_holes p ≡ Some holes → b ≡ option_map (λ (h : Hole). h.base) (leftmost holes)) → b ≡ option_map (λ (h : Hole). h.base) (first_hole [] sketch.partial)
   first-base-at h b told = told (holes_in [] sketch.partial) (holes-at t q r p h) ∙ ap (option_map (λ (h : Hole). h.base)) (leftmost-first [] sketch.partial)
 
-  pub variables-at : p < length (sketches_in t) → (vs : List ℕ) → ((holes : List Hole) → slice_get t.open_holes p ≡ Some holes → vs ≡ variables_for (leftmost holes)) → vs ≡ variables_for (first_hole [] sketch.partial)
-  variables-at h vs told = told (holes_in [] sketch.partial) (holes-at t q r p h) ∙ ap variables_for (leftmost-first [] sketch.partial)
+  pub count-at : p < length (sketches_in t) → (n : ℕ) → ((holes : List Hole) → slice_get t.open_holes p ≡ Some holes → n ≡ length (variables_for (leftmost holes))) → n ≡ length (variables_for (first_hole [] sketch.partial))
+  count-at h n told = told (holes_in [] sketch.partial) (holes-at t q r p h) ∙ ap (λ (o : Option Hole). length (variables_for o)) (leftmost-first [] sketch.partial)
 
   -- the heads that fit, with so many witnesses
   abbrev heads_with : ℕ → List Lambda

@@ -163,6 +163,8 @@ module _ (t : Tables) (q : Queue Planned Delays) (r : IsRightState t q) (stem : 
         terms = r.terms;
         chosen = r.chosen;
         described = r.described;
+        walked = r.walked;
+        taken = r.taken;
         offered = r.offered;
         takers = r.takers;
         stems = subst (AreStems (scope_by t.basis) []) (sym stems) (stems-last (scope_by t.basis) [] t.stems.items stem r.stems is);

@@ -1,5 +1,5 @@
 -- Heads at the first holes of parked partial terms, and what comes of them.
-use Rattle.std.specs.Prelude.{◌≡◌, ◌<◌, nat_eq, ℕ, suc, Bool, true, false, List, [], ◌∷◌, ◌++◌, length, slice_get, Option, Some, None, option_map, option_and_then, refl}
+use Rattle.std.specs.Prelude.{◌≡◌, ◌<◌, nat_eq, ℕ, suc, Bool, true, false, List, [], ◌∷◌, ◌++◌, length, slice_get, Option, Some, None, is_some, IsSome, option_map, option_and_then, refl}
 use Rattle.std.proofs.Common.{sym, ap, subst, ◌∙◌, arith}
 use Rattle.std.proofs.lemmas.Bool.{ne_eqb, eqb-true}
 use Rattle.std.proofs.lemmas.Option.{same_Some}
@@ -65,6 +65,15 @@ module _ (t : Tables) (q : Queue Planned Delays) (r : IsRightState t q) (p : ℕ
       told (holes_in [] x.partial) (holes-at t q r p number)
       ∙ ap (λ (scope : Scope). option_and_then (λ (h : Hole). type_of scope h.context u) (leftmost (holes_in [] x.partial))) (sym (scope-is t.basis r.basis))
       ∙ type-taken (scope_by t.basis) u x takes
+
+  pub typed-there : (holes : List Hole) → slice_get t.open_holes p ≡ Some holes → IsSome (option_and_then (λ (h : Hole). type_of (content_scope t.basis.bank) h.context u) (leftmost holes))
+  typed-there holes at =
+      let same : holes_in [] x.partial ≡ holes = same_Some (holes_in [] x.partial) holes (sym (holes-at t q r p number) ∙ at) in
+      let is =
+      ap (λ (hs : List Hole). option_and_then (λ (h : Hole). type_of (content_scope t.basis.bank) h.context u) (leftmost hs)) (sym same)
+      ∙ ap (λ (scope : Scope). option_and_then (λ (h : Hole). type_of scope h.context u) (leftmost (holes_in [] x.partial))) (sym (scope-is t.basis r.basis))
+      ∙ type-taken (scope_by t.basis) u x takes in
+      ap is_some is
 
   pub holes-after : (a : SimpleType) → a ≡ takes.type → holes_in [] further.partial ≡ after_head a (holes_in [] x.partial)
   holes-after a e = grown-holes (scope_by t.basis) u x takes ∙ ap (λ b. after_head b (holes_in [] x.partial)) (sym e)

@@ -38,6 +38,7 @@ use Rattle.prover_state.specs.Internal.Pending.{loop_at, IsEntry}
 use Rattle.prover_state.specs.Internal.Standing.{without_witnesses, rows_in, scope_by, sketches_in, naming_in, sources, loops_in, the_state, is_universal, can_pair, places_where, IsBasis, IsRightState}
 use Rattle.prover_state.proofs.EachLaws.{each-weaker, each-from_All, map-same}
 use Rattle.prover_state.proofs.LoopStays.{loops-stay, entries-stay}
+use Rattle.prover_state.proofs.TakenLaws.{taken-on}
 use Rattle.prover_state.proofs.NamesLaws.{place-stays, term-stays, literal-stays, command-stays, numbers-stay}
 use Rattle.prover_state.proofs.StateStays.{filter-same, places-same, state-stays}
 use Rattle.prover_growth.proofs.WiderStems.{sketches-wider, stems-wider}
@@ -160,6 +161,10 @@ module _ (t : Tables) (q : Queue Planned Delays) (g : Basis) (w : BasisWidens t.
         terms = each-weaker (λ (u : Listing). IsPlace t.basis.bank.terms u.1) (λ (u : Listing). IsPlace g.bank.terms u.1) (λ u h. place_stays u.1 h) t.terms r.terms;
         chosen = each-weaker (IsPlace t.basis.bank.terms) (IsPlace g.bank.terms) place_stays t.chosen r.chosen;
         described = each-weaker (IsPlace t.basis.bank.terms) (IsPlace g.bank.terms) place_stays t.described r.described;
+        walked = each-weaker (IsPlace t.basis.bank.terms) (IsPlace g.bank.terms) place_stays t.walked r.walked;
+        taken =
+            taken-on (the_state t q).chosen (the_state widened q).chosen (the_state t q).described (the_state widened q).described t.basis.bank.terms g.bank.terms t.walked
+            (ap (λ (s : State). s.chosen) between_same) (ap (λ (s : State). s.described) between_same) (term-stays t.basis.bank.terms g.bank.terms continues.terms) r.walked r.taken;
         stems = stems_stay;
         open_holes = r.open_holes ∙ ap (map (λ (p : Sketch). holes_in [] p.partial)) (sym sketches_stay);
         roots = λ a. ap (list_any (λ (p : Sketch). same_type a p.type)) sketches_stay ∙ r.roots a;

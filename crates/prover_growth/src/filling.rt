@@ -113,6 +113,6 @@ pub fn fill<W: Weigher<Waiting>>(
         parent: number,
         head: filler,
     };
-    open_stem(core, stem)?;
+    open_stem(core, stem, &ty)?;
     Ok(())
 }

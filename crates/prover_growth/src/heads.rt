@@ -67,9 +67,9 @@ fn count_heads(tables: &Tables, p: usize) -> Result<usize, AllocError>
 {
     match tables.open_holes.first_base(p) {
         Some(base) => {
-            let variables = tables.open_holes.variables(tables.alloc, p)?;
+            let variables = tables.open_holes.count_variables(p);
             let constants = count_constants(tables, base)?;
-            let given = plus(variables.len(), constants)?;
+            let given = plus(variables, constants)?;
             let logical = count_logical(tables, base, given)?;
             Ok(plus(given, logical)?)
         }

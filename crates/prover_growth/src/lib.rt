@@ -14,5 +14,5 @@ mod witness;
 
 pub use filling::fill;
 pub use offers::offer_new;
-pub use opening::{open_stem, prepare};
+pub use opening::prepare;
 pub use witness::add_witness;

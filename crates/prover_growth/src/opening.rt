@@ -7,6 +7,7 @@ ghost use Rattle.search_spec.specs.Offers.{is_prepared, is_ranged_over};
 ghost use Rattle.search_spec.specs.Preparing.{with_beginning, with_preparation};
 ghost use Rattle.search_spec.specs.Terms.{with_opening};
 ghost use Rattle.command_queue.specs.Queue.{Queue};
+ghost use Rattle.prover_growth.specs.Internal.Stems.{IsStemType};
 ghost use Rattle.prover_state.specs.Lasting.{lasting};
 ghost use Rattle.prover_state.specs.declared.command.Planned.{Planned};
 ghost use Rattle.prover_state.specs.declared.command.Delays.{Delays};
@@ -36,10 +37,16 @@ fn has_type(types: &Types, ty: &Ty) -> bool
     false
 }
 
-/// A partial term is opened: it is parked, and its first hole is to be filled with each head that fits.
-pub fn open_stem<W: Weigher<Waiting>>(core: &mut Core<W>, stem: Stem) -> Result<(), AllocError>
+/// A partial term is opened, where the type of its head, or its own, is given: it is parked, and its first hole is to be filled with each
+/// head that fits.
+pub(crate) fn open_stem<W: Weigher<Waiting>>(
+    core: &mut Core<W>,
+    stem: Stem,
+    ty: &Ty,
+) -> Result<(), AllocError>
     requires right { IsRightState core.old.tables core.old.plan }
     requires stem { IsStem (scope_by core.old.tables.basis) (sketches_in core.old.tables) stem }
+    requires typed { IsStemType (scope_by core.old.tables.basis) (sketches_in core.old.tables) stem (the_type ty.now) }
     ensures state { OnOk result (the_state core.new.tables core.new.plan ≡ with_opening (setting_by core.old.tables core.old.plan) (sketch_of (scope_by core.old.tables.basis) (sketches_in core.old.tables) stem) (the_state core.old.tables core.old.plan)) }
     ensures right { OnOk result (IsRightState core.new.tables core.new.plan) }
     ensures tables { OnOk result (core.new.tables ≡ record core.old.tables { stems = core.new.tables.stems; open_holes = core.new.tables.open_holes; holes = core.new.tables.holes; roots = core.new.tables.roots }) }
@@ -47,7 +54,7 @@ pub fn open_stem<W: Weigher<Waiting>>(core: &mut Core<W>, stem: Stem) -> Result<
     ensures lasts { lasting core.new.tables ≡ lasting core.old.tables }
 {
     let p = core.tables.stems.len();
-    park(core, stem)?;
+    park(core, stem, ty)?;
     push_heads(core, p)?;
     Ok(())
 }
@@ -64,7 +71,7 @@ fn begin_function<W: Weigher<Waiting>>(core: &mut Core<W>, ty: &Ty) -> Result<()
 {
     let alloc = core.tables.alloc;
     let blank = Rc::new(alloc, ty.try_clone(alloc)?)?;
-    open_stem(core, Stem::Blank(blank))?;
+    open_stem(core, Stem::Blank(blank), ty)?;
     Ok(())
 }
 

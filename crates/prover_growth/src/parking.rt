@@ -2,11 +2,13 @@
 ghost use Rattle.std.specs.Prelude.{◌≡◌, ◌<◌, ◌++◌, ℕ, List, [], ◌∷◌, Some, length, slice_get, if◌then◌else◌, OnOk};
 ghost use Rattle.std.specs.List.{list_any};
 ghost use Rattle.stt_core.specs.SimpleType.{SimpleType, base, same_type};
+ghost use Rattle.stt_core.specs.View.{the_type};
 ghost use Rattle.command_queue.specs.Queue.{Queue};
 ghost use Rattle.instantiate.specs.Listing.{ids_of};
 ghost use Rattle.search_spec.specs.Each.{Each};
 ghost use Rattle.search_spec.specs.Partial.{Hole};
 ghost use Rattle.search_spec.specs.Witness.{is_hole_of};
+ghost use Rattle.prover_growth.specs.Internal.Stems.{IsStemType};
 ghost use Rattle.prover_state.specs.Lasting.{lasting};
 ghost use Rattle.prover_state.specs.declared.command.Planned.{Planned};
 ghost use Rattle.prover_state.specs.declared.command.Delays.{Delays};
@@ -14,27 +16,28 @@ ghost use Rattle.prover_state.specs.Internal.Heads.{sketch_of, IsStem};
 ghost use Rattle.prover_state.specs.Internal.Holes.{holes_in, leftmost};
 ghost use Rattle.prover_state.specs.Internal.Standing.{scope_by, sketches_in, the_state, IsRightState};
 
-use crate::taking::taken_type;
 use command_queue::Weigher;
 use prover_state::{Core, Stem, Tables, Waiting};
 use std::alloc::AllocError;
+use stt_core::Ty;
 
-/// Appends the holes of a partial term.
-fn push_holes(tables: &mut Tables, stem: &Stem) -> Result<(), AllocError>
+/// Appends the holes of a partial term, where the type of its head, or its own, is given.
+fn push_holes(tables: &mut Tables, stem: &Stem, ty: &Ty) -> Result<(), AllocError>
     requires right { (q : Queue Planned Delays) × IsRightState tables.old q }
     requires stem { IsStem (scope_by tables.old.basis) (sketches_in tables.old) stem.now }
+    requires typed { IsStemType (scope_by tables.old.basis) (sketches_in tables.old) stem.now (the_type ty.now) }
     ensures holes { OnOk result (tables.new.open_holes ≡ tables.old.open_holes ++ holes_in [] (sketch_of (scope_by tables.old.basis) (sketches_in tables.old) stem.now).partial ∷ []) }
     ensures tables { tables.new ≡ record tables.old { open_holes = tables.new.open_holes } }
 {
     match stem {
-        Stem::Blank(ty) => {
+        Stem::Blank(_) => {
             tables.open_holes.push_blank(tables.alloc, ty)?;
             Ok(())
         }
-        Stem::Grown { parent, head } => {
-            let parent = *parent as usize;
-            let ty = taken_type(tables, parent, *head)?;
-            tables.open_holes.push_grown(tables.alloc, parent, &ty)?;
+        Stem::Grown { parent, .. } => {
+            tables
+                .open_holes
+                .push_grown(tables.alloc, *parent as usize, ty)?;
             Ok(())
         }
     }
@@ -73,10 +76,15 @@ fn list_hole(tables: &mut Tables, p: usize) -> Result<(), AllocError>
     }
 }
 
-/// Parks a partial term: it is the last one.
-pub(crate) fn park<W: Weigher<Waiting>>(core: &mut Core<W>, stem: Stem) -> Result<(), AllocError>
+/// Parks a partial term, where the type of its head, or its own, is given: it is the last one.
+pub(crate) fn park<W: Weigher<Waiting>>(
+    core: &mut Core<W>,
+    stem: Stem,
+    ty: &Ty,
+) -> Result<(), AllocError>
     requires right { IsRightState core.old.tables core.old.plan }
     requires stem { IsStem (scope_by core.old.tables.basis) (sketches_in core.old.tables) stem }
+    requires typed { IsStemType (scope_by core.old.tables.basis) (sketches_in core.old.tables) stem (the_type ty.now) }
     ensures state { OnOk result (let s = the_state core.old.tables core.old.plan in the_state core.new.tables core.new.plan ≡ record s { parked = s.parked ++ sketch_of (scope_by core.old.tables.basis) (sketches_in core.old.tables) stem ∷ [] }) }
     ensures right { OnOk result (IsRightState core.new.tables core.new.plan) }
     ensures sketches { OnOk result (sketches_in core.new.tables ≡ sketches_in core.old.tables ++ sketch_of (scope_by core.old.tables.basis) (sketches_in core.old.tables) stem ∷ []) }
@@ -85,7 +93,7 @@ pub(crate) fn park<W: Weigher<Waiting>>(core: &mut Core<W>, stem: Stem) -> Resul
     ensures lasts { lasting core.new.tables ≡ lasting core.old.tables }
 {
     let p = core.tables.stems.len();
-    push_holes(&mut core.tables, &stem)?;
+    push_holes(&mut core.tables, &stem, ty)?;
     push_root(&mut core.tables, &stem)?;
     list_hole(&mut core.tables, p)?;
     core.tables.stems.push(stem)?;

@@ -22,11 +22,11 @@ pub(crate) fn taken_type(tables: &Tables, p: usize, head: HoleHead) -> Result<Ty
     requires takes { TakesHead (scope_by tables.now.basis) (sketch_at (sketches_in tables.now) p).partial (the_hole_head head) }
     ensures { IfOk result (λ ty. (takes : TakesHead (scope_by tables.now.basis) (sketch_at (sketches_in tables.now) p).partial (the_hole_head head)) → the_type ty ≡ takes.type) }
 {
-    let found = tables.open_holes.head_type(&tables.basis.bank, p, head)?;
-    match found {
-        Some(ty) => Ok(ty),
-        None => unreachable!(),
-    }
+    Ok(
+        tables
+            .open_holes
+            .head_type(tables.alloc, &tables.basis.bank, p, head)?,
+    )
 }
 
 /// Whether no hole is left where the first hole of a partial term is filled with a head of the type.

@@ -28,6 +28,7 @@ use Rattle.prover_state.specs.declared.offers.Offered.{Offered}
 use Rattle.prover_state.specs.declared.tables.Basis.{Basis}
 use Rattle.prover_state.specs.declared.tables.Tables.{Tables}
 use Rattle.prover_state.specs.Internal.Empty.{AreEmpty}
+use Rattle.prover_state.specs.Internal.Selecting.{AreTaken}
 use Rattle.prover_state.specs.Internal.Heads.{sketches_of, AreStems}
 use Rattle.prover_state.specs.Internal.Holes.{holes_in}
 use Rattle.prover_state.specs.Internal.Names.{typed_at, IsNumberIn, IsPlace}
@@ -90,6 +91,8 @@ module _ (g : Basis) (given : Offers) (listed : Offered) (t : Tables) (e : AreEm
         terms = subst (Each (λ u. IsPlace t.basis.bank.terms u.1)) (sym e.terms) tt;
         chosen = subst (Each (IsPlace t.basis.bank.terms)) (sym e.chosen) tt;
         described = subst (Each (IsPlace t.basis.bank.terms)) (sym e.described) tt;
+        walked = subst (Each (IsPlace t.basis.bank.terms)) (sym e.walked) tt;
+        taken = subst (AreTaken (map (term_at t.basis.bank.terms) t.chosen) (map (term_at t.basis.bank.terms) t.described) t.basis.bank.terms) (sym e.walked) tt;
         offered = offers_listed named;
         takers = λ n. ap (ids_of (base n)) e.takers ∙ sym (ap (λ (rows : List Row). places_to n 0 (map (λ r. r.type) rows)) no_rows);
         stems = subst (AreStems (scope_by t.basis) []) (sym e.stems) tt;

@@ -1,6 +1,6 @@
 -- Heads that fit a hole, one after the other.
-use Rattle.std.specs.Prelude.{◌≡◌, ◌<◌, ◌≤◌, ◌+◌, ◌-◌, nat_eq, ℕ, zero, suc, Bool, true, false, List, [], ◌∷◌, ◌++◌, map, take, drop, get_or, length, slice_get, Option, Some, None, refl, if◌then◌else◌}
-use Rattle.std.proofs.Common.{sym, ap, subst, ◌∙◌, arith, append-nil, append_assoc, length-append, take-append-drop, length-take-le}
+use Rattle.std.specs.Prelude.{◌≡◌, ◌≢◌, ◌<◌, ◌≤◌, ◌+◌, ◌-◌, nat_eq, ℕ, zero, suc, Bool, true, false, List, [], ◌∷◌, ◌++◌, map, take, drop, get_or, length, slice_get, Option, Some, None, refl, if◌then◌else◌}
+use Rattle.std.proofs.Common.{sym, ap, ap₂, subst, ◌∙◌, arith, append-nil, append_assoc, length-append, take-append-drop, length-take-le}
 use Rattle.std.proofs.lemmas.List.{length-map}
 use Rattle.stt_core.specs.SimpleType.{SimpleType, base, target}
 use Rattle.stt_core.specs.Lambda.{Lambda, bound, constant, name, witness, all, equality}
@@ -39,11 +39,64 @@ places-step b i types a old new fits at e is =
     go true = append_assoc old (i ∷ []) rest
     go false = refl
 
+-- what begins at a place
+places_here : (b i : ℕ) (types : List SimpleType) (a : SimpleType) → slice_get types i ≡ Some a
+    → places_to b i (drop i types) ≡ (if nat_eq (target a) b then i ∷ places_to b (i + 1) (drop (i + 1) types) else places_to b (i + 1) (drop (i + 1) types))
+places_here b i types a at =
+    ap (places_to b i) (drop_got types i a at)
+    ∙ sym (ap (λ n. if nat_eq (target a) b then i ∷ places_to b n (drop (i + 1) types) else places_to b n (drop (i + 1) types)) (let n : i + 1 ≡ suc i = omega arith in n))
+
+pub count-step : (b i : ℕ) (types : List SimpleType) (a : SimpleType) (old new : ℕ) (fits : Bool) → slice_get types i ≡ Some a → fits ≡ nat_eq (target a) b → new ≡ (if fits then old + 1 else old)
+    → new + length (places_to b (i + 1) (drop (i + 1) types)) ≡ old + length (places_to b i (drop i types))
+count-step b i types a old new fits at e is =
+    ap (λ n. n + length rest) is ∙ go fits
+    ∙ ap (λ (x : Bool). old + length (if x then i ∷ rest else rest)) e
+    ∙ ap (λ (xs : List ℕ). old + length xs) (sym (places_here b i types a at))
+  where
+    rest : List ℕ
+    rest = places_to b (i + 1) (drop (i + 1) types)
+
+    go : (x : Bool) → (if x then old + 1 else old) + length rest ≡ old + length (if x then i ∷ rest else rest)
+    go true = omega arith
+    go false = refl
+
+module _ (b i : ℕ) (types : List SimpleType) (a : SimpleType) (at : slice_get types i ≡ Some a) (fits : Bool) (e : fits ≡ nat_eq (target a) b) where
+  abbrev behind : List ℕ
+  behind = places_to b (i + 1) (drop (i + 1) types)
+
+  from_here : places_to b i (drop i types) ≡ (if fits then i ∷ behind else behind)
+  from_here = places_here b i types a at ∙ ap (λ (x : Bool). if x then i ∷ behind else behind) (sym e)
+
+  pub variable-here : (left : ℕ) → fits ≡ true → left ≡ 0 → slice_get (places_to b i (drop i types)) left ≡ Some i
+  variable-here left f z = ap₂ slice_get (from_here ∙ ap (λ (x : Bool). if x then i ∷ behind else behind) f) z
+
+  pub variable-next : (left : ℕ) → fits ≡ true → left ≢ 0 → slice_get behind (left - 1) ≡ slice_get (places_to b i (drop i types)) left
+  variable-next zero f z = absurd (z refl)
+  variable-next (suc k) f z =
+      ap (slice_get behind) (let n : suc k - 1 ≡ k = omega arith in n)
+      ∙ sym (ap (λ xs. slice_get xs (suc k)) (from_here ∙ ap (λ (x : Bool). if x then i ∷ behind else behind) f))
+
+  pub variable-later : (left : ℕ) → fits ≡ false → slice_get behind left ≡ slice_get (places_to b i (drop i types)) left
+  variable-later left f = sym (ap (λ xs. slice_get xs left) (from_here ∙ ap (λ (x : Bool). if x then i ∷ behind else behind) f))
+
 past_end : {X : Type 0} (xs : List X) (i : ℕ) → length xs ≤ i → drop i xs ≡ []
 past_end [] zero h = refl
 past_end [] (suc i) h = refl
 past_end (x ∷ xs) zero h = absurd (omega (arith, h))
 past_end (x ∷ xs) (suc i) h = past_end xs i (omega (arith, h))
+
+pub got : {X : Type 0} (xs : List X) (i : ℕ) → i < length xs → (x : X) × (slice_get xs i ≡ Some x)
+got [] i h = absurd (omega (arith, h))
+got (x ∷ xs) zero h = (x, refl)
+got (x ∷ xs) (suc i) h = got xs i (omega (arith, h))
+
+-- behind the last one is none
+pub none-behind : (b i left place : ℕ) (types : List SimpleType) → length types ≤ i → slice_get (places_to b i (drop i types)) left ≡ slice_get (places_to b 0 types) place → place < length (places_to b 0 types) → ⊥
+none-behind b i left place types past e within =
+    let found = got (places_to b 0 types) place within in
+    let none : slice_get (places_to b i (drop i types)) left ≡ None = ap (λ (ts : List SimpleType). slice_get (places_to b i ts) left) (past_end types i past) in
+    let some = e ∙ found.1 in
+    cc
 
 pub places-done : (b i : ℕ) (types : List SimpleType) (items : List ℕ) → length types ≤ i → items ++ places_to b i (drop i types) ≡ places_to b 0 types → items ≡ places_to b 0 types
 places-done b i types items h e = sym (ap (λ (ts : List SimpleType). items ++ places_to b i ts) (past_end types i h) ∙ append-nil items) ∙ e

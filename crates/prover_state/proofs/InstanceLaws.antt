@@ -87,6 +87,8 @@ module _ (t : Tables) (q : Queue Planned Delays) (equal : EqualIdsForEqualTerms 
         terms = r.terms;
         chosen = r.chosen;
         described = r.described;
+        walked = r.walked;
+        taken = r.taken;
         index = r.index;
         paired = r.paired;
         offered = r.offered;

@@ -10,6 +10,8 @@ pub mod SeenLaws
 pub mod ShallowLaws
 pub mod ClauseLaws
 pub mod RoomLaws
+pub mod TakenLaws
+pub mod HeadTypeLaws
 pub mod SelectionLaws
 pub mod SameLoops
 pub mod TakeLaws

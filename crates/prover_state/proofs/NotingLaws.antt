@@ -145,6 +145,8 @@ module _ (t : Tables) (q : Queue Planned Delays) (r : IsRightState t q) (l : Sat
       terms = r.terms;
       chosen = r.chosen;
       described = r.described;
+      walked = r.walked;
+      taken = r.taken;
       offered = r.offered;
       takers = r.takers;
       stems = r.stems;

@@ -199,6 +199,8 @@ module _ (t : Tables) (old new : Queue Planned Delays) (p : Planned) (entry : Is
         terms = r.terms;
         chosen = r.chosen;
         described = r.described;
+        walked = r.walked;
+        taken = r.taken;
         index = r.index;
         paired = r.paired;
         offered = r.offered;

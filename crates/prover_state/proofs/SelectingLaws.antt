@@ -28,8 +28,9 @@ use Rattle.term_bank.specs.Terms.{term_at, shape_term, IsTypedTerm}
 use Rattle.term_bank.specs.declared.node.Node.{Node}
 use Rattle.term_bank.specs.declared.node.Node.TheVariants.{Lam, App}
 use Rattle.witness_names.specs.Rows.{binder_of}
-use Rattle.prover_state.specs.Internal.Selecting.{term_parts, selection_at, head_selection, IsTakenSelection, AreTaken}
-use Rattle.prover_state.proofs.EachLaws.{each-weaker, each-left, each-last}
+use Rattle.prover_state.specs.Internal.Selecting.{term_parts, selection_at, head_selection, IsTakenSelection}
+use Rattle.prover_state.proofs.EachLaws.{each-left}
+use Rattle.prover_state.proofs.TakenLaws.{any_more}
 
 -- THE PARTS OF A TERM
 
@@ -159,16 +160,8 @@ any_last f (g ∷ fs) = go (same_term f g) (any_last f fs)
     go true e = refl
     go false e = e
 
-any_more : (f : Lambda) (fs gs : List Lambda) → list_any (same_term f) fs ≡ true → list_any (same_term f) (fs ++ gs) ≡ true
-any_more f [] gs e = cc
-any_more f (g ∷ fs) gs e = go (same_term f g) e (any_more f fs gs)
-  where
-    go : (b : Bool) → (b || list_any (same_term f) fs) ≡ true → (list_any (same_term f) fs ≡ true → list_any (same_term f) (fs ++ gs) ≡ true) → (b || list_any (same_term f) (fs ++ gs)) ≡ true
-    go true e rest = refl
-    go false e rest = rest e
-
 module _ (mode : Mode) where
-  taken_by : (p : Selection) (s : State) → IsTakenSelection (with_selection mode p s) p
+  taken_by : (p : Selection) (s : State) → IsTakenSelection (with_selection mode p s).chosen (with_selection mode p s).described p
   taken_by (by_choice a f) s = go (list_any (same_term f) s.chosen) refl
     where
       go : (b : Bool) → list_any (same_term f) s.chosen ≡ b → list_any (same_term f) (if b then s else with_commands mode (choose a f ∷ []) (record s { chosen = s.chosen ++ f ∷ [] })).chosen ≡ true
@@ -180,7 +173,7 @@ module _ (mode : Mode) where
       go true e = e
       go false e = any_last f s.described
 
-  taken_stays : (p q : Selection) (s : State) → IsTakenSelection s p → IsTakenSelection (with_selection mode q s) p
+  taken_stays : (p q : Selection) (s : State) → IsTakenSelection s.chosen s.described p → IsTakenSelection (with_selection mode q s).chosen (with_selection mode q s).described p
   taken_stays (by_choice a f) (by_choice b g) s h = go (list_any (same_term g) s.chosen)
     where
       go : (x : Bool) → list_any (same_term f) (if x then s else with_commands mode (choose b g ∷ []) (record s { chosen = s.chosen ++ g ∷ [] })).chosen ≡ true
@@ -202,27 +195,21 @@ module _ (mode : Mode) where
       go true = h
       go false = any_more f s.described (g ∷ []) h
 
-  taken_kept : (qs : List Selection) (p : Selection) (s : State) → IsTakenSelection s p → IsTakenSelection (with_selections mode qs s) p
+  taken_kept : (qs : List Selection) (p : Selection) (s : State) → IsTakenSelection s.chosen s.described p → IsTakenSelection (with_selections mode qs s).chosen (with_selections mode qs s).described p
   taken_kept [] p s h = h
   taken_kept (q ∷ qs) p s h = taken_kept qs p (with_selection mode q s) (taken_stays p q s h)
 
-  -- what was taken up before stays so
-  pub are-kept : (qs : List Selection) (s : State) (terms : List Lambda) (ids : List ℕ) → AreTaken s terms ids → AreTaken (with_selections mode qs s) terms ids
-  are-kept qs s terms ids h =
-      each-weaker (λ id. Each (IsTakenSelection s) (selections_in (term_at terms id))) (λ id. Each (IsTakenSelection (with_selections mode qs s)) (selections_in (term_at terms id)))
-      (λ id k. each-weaker (IsTakenSelection s) (IsTakenSelection (with_selections mode qs s)) (λ p. taken_kept qs p s) (selections_in (term_at terms id)) k) ids h
-
   -- after all were taken up, each of them was
-  pub all-taken : (ps : List Selection) (s : State) → Each (IsTakenSelection (with_selections mode ps s)) ps
+  pub all-taken : (ps : List Selection) (s : State) → Each (IsTakenSelection (with_selections mode ps s).chosen (with_selections mode ps s).described) ps
   all-taken [] s = tt
   all-taken (p ∷ ps) s = (taken_kept ps p (with_selection mode p s) (taken_by p s), all-taken ps (with_selection mode p s))
 
-  nothing_new : (p : Selection) (s : State) → IsTakenSelection s p → with_selection mode p s ≡ s
+  nothing_new : (p : Selection) (s : State) → IsTakenSelection s.chosen s.described p → with_selection mode p s ≡ s
   nothing_new (by_choice a f) s h = ap (λ (b : Bool). if b then s else with_commands mode (choose a f ∷ []) (record s { chosen = s.chosen ++ f ∷ [] })) h
   nothing_new (by_description a f) s h = ap (λ (b : Bool). if b then s else with_commands mode (describe a f ∷ []) (record s { described = s.described ++ f ∷ [] })) h
 
   -- what was taken up before leaves the state as it is
-  pub taken-leaves : (ps : List Selection) (s : State) → Each (IsTakenSelection s) ps → with_selections mode ps s ≡ s
+  pub taken-leaves : (ps : List Selection) (s : State) → Each (IsTakenSelection s.chosen s.described) ps → with_selections mode ps s ≡ s
   taken-leaves [] s h = refl
   taken-leaves (p ∷ ps) s h = ap (with_selections mode ps) (nothing_new p s h.0) ∙ taken-leaves ps s h.1
 
@@ -237,14 +224,6 @@ any-member P id (i ∷ ids) e h = go (nat_eq id i) refl e (λ k. any-member P id
     go : (b : Bool) → nat_eq id i ≡ b → (b || list_any (nat_eq id) ids) ≡ true → (list_any (nat_eq id) ids ≡ true → P id) → P id
     go true k e rest = subst P (sym (eqb-true id i k)) h.0
     go false k e rest = rest e
-
--- what holds of each walked place, with one more
-pub one-more : (P : ℕ → Type 0) (ids new : List ℕ) (id : ℕ) → new ≡ (if list_any (nat_eq id) ids then ids else ids ++ id ∷ []) → Each P ids → P id → Each P new
-one-more P ids new id is h own = subst (Each P) (sym is) (go (list_any (nat_eq id) ids))
-  where
-    go : (b : Bool) → Each P (if b then ids else ids ++ id ∷ [])
-    go true = h
-    go false = each-last P ids id h own
 
 pub on-ok : {T E P Q : Type 0} (r : Result T E) → (P → Q) → OnOk r P → OnOk r Q
 on-ok (Ok x) f h = f h

@@ -30,6 +30,8 @@ module _ (t : Tables) (q : Queue Planned Delays) (r : IsRightState t q) (equal :
     terms = r.terms;
     chosen = r.chosen;
     described = r.described;
+    walked = r.walked;
+    taken = r.taken;
     index = r.index;
     paired = r.paired;
     offered = r.offered;

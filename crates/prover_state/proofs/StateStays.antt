@@ -36,6 +36,7 @@ use Rattle.prover_state.specs.Internal.Standing.{without_witnesses, rows_in, sco
 use Rattle.prover_state.proofs.EachLaws.{each-weaker, map-same}
 use Rattle.prover_state.proofs.NamesLaws.{place-stays, term-stays, number-stays, literal-stays, typed-stays, command-stays, numbers-stay}
 use Rattle.prover_state.proofs.LoopStays.{loops-stay, entries-stay}
+use Rattle.prover_state.proofs.TakenLaws.{taken-on}
 
 -- tests that agree on each element pass the same ones
 pub filter-same : {X : Type 0} (f g : X → Bool) (P : X → Type 0) → ((x : X) → P x → f x ≡ g x) → (xs : List X) → Each P xs → filter f xs ≡ filter g xs
@@ -160,6 +161,10 @@ module _ (t : Tables) (q : Queue Planned Delays) (g : Basis) (grows : BasisGrows
         terms = each-weaker (λ u. IsPlace t.basis.bank.terms u.1) (λ u. IsPlace g.bank.terms u.1) (λ u h. place-stays t.basis.bank.terms g.bank.terms continues.terms u.1 h) t.terms r.terms;
         chosen = more_places t.chosen r.chosen;
         described = more_places t.described r.described;
+        walked = more_places t.walked r.walked;
+        taken =
+            taken-on (the_state t q).chosen (the_state grown q).chosen (the_state t q).described (the_state grown q).described t.basis.bank.terms g.bank.terms t.walked
+            (places_stay t.chosen r.chosen) (places_stay t.described r.described) (term-stays t.basis.bank.terms g.bank.terms continues.terms) r.walked r.taken;
         stems = subst (λ scope. AreStems scope [] t.stems.items) (sym scope_by_stays) r.stems;
         open_holes = r.open_holes ∙ ap (map (λ p. holes_in [] p.partial)) (sym sketches_stay);
         roots = λ a. ap (list_any (λ p. same_type a p.type)) sketches_stay ∙ r.roots a;

@@ -146,6 +146,8 @@ module _ (t : Tables) (old mid : Queue Planned Delays) (e : Entry Planned) (take
         terms = r.terms;
         chosen = r.chosen;
         described = r.described;
+        walked = r.walked;
+        taken = r.taken;
         index = r.index;
         paired = r.paired;
         offered = r.offered;

@@ -159,6 +159,8 @@ module _ (t : Tables) (q : Queue Planned Delays) (r : IsRightState t q) (a : Sim
       universals = r.universals;
       chosen = r.chosen;
       described = r.described;
+      walked = r.walked;
+      taken = r.taken;
       index = r.index;
       paired = r.paired;
       offered = r.offered;

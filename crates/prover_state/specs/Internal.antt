@@ -12,6 +12,7 @@ pub mod Selecting
 pub mod Empty
 pub mod Standing
 pub mod HeadNumbers
+pub mod HeadTypes
 pub mod Taking
 pub mod Steps
 pub mod Shapes

@@ -1,5 +1,5 @@
 //! Holes in lists that share their ends.
-ghost use Rattle.std.specs.Prelude.{◌≡◌, ◌<◌, ◌≤◌, ◌++◌, [], ◌∷◌, length, nat_eq, reverse, if◌then◌else◌, Some, slice_get, option_map, IfOk, OnOk};
+ghost use Rattle.std.specs.Prelude.{◌≡◌, ◌<◌, ◌≤◌, ◌++◌, [], ◌∷◌, length, nat_eq, reverse, Some, slice_get, IsSome, IfOk};
 ghost use Rattle.stt_core.specs.SimpleType.{SimpleType, target};
 ghost use Rattle.stt_core.specs.Typing.{type_of};
 ghost use Rattle.stt_core.specs.View.{the_type, the_head};
@@ -38,15 +38,6 @@ impl Model for Cell {
     ghost view = { λ c. (record { base = c.base; context = reverse c.context.value }, c.rest) };
 }
 
-fn push_where(places: &mut Vec<usize>, fits: bool, place: usize) -> Result<(), AllocError>
-    ensures { OnOk result (places.new.items ≡ (if fits then places.old.items ++ place ∷ [] else places.old.items)) }
-{
-    if fits {
-        places.push(place)?;
-    }
-    Ok(())
-}
-
 impl Cell {
     /// The variables in scope.
     pub(crate) fn context(&self) -> Result<Rc<Variables>, AllocError>
@@ -69,10 +60,14 @@ impl Cell {
     }
 
     /// The type of a head there, where it has one.
-    pub(crate) fn head_type(&self, bank: &Bank, head: &Head) -> Result<Option<Ty>, AllocError>
-        ensures { IfOk result (λ o. option_map the_type o ≡ type_of (content_scope bank.now) self.now.0.context (the_head head.now)) }
+    pub(crate) fn head_type(&self, bank: &Bank, head: &Head) -> Result<Ty, AllocError>
+        requires { IsSome (type_of (content_scope bank.now) self.now.0.context (the_head head.now)) }
+        ensures { IfOk result (λ ty. Some (the_type ty) ≡ type_of (content_scope bank.now) self.now.0.context (the_head head.now)) }
     {
-        Ok(bank.head_type(&Context::Outer(self.context.types()), head)?)
+        match bank.head_type(&Context::Outer(self.context.types()), head)? {
+            Some(ty) => Ok(ty),
+            None => unreachable!(),
+        }
     }
 
     /// How many variables are in scope.
@@ -90,17 +85,36 @@ impl Cell {
         self.context.target_at(i)
     }
 
-    /// The variables whose target type is the hole's.
-    pub(crate) fn variables(&self, alloc: Global) -> Result<Vec<usize>, AllocError>
-        ensures { IfOk result (λ v. v.items ≡ places_to self.now.0.base 0 self.now.0.context) }
+    /// How many variables have the hole's base type as target type.
+    pub(crate) fn count_variables(&self) -> usize
+        ensures { result ≡ length (places_to self.now.0.base 0 self.now.0.context) }
     {
         let base = self.base();
-        let mut places = Vec::new(alloc);
+        let mut count = 0;
         for i in 0..self.len() {
-            let fits = self.target_at(i) == base;
-            push_where(&mut places, fits, i)?;
+            if self.target_at(i) == base {
+                count += 1;
+            }
         }
-        Ok(places)
+        count
+    }
+
+    /// The variable at a place among those whose target type is the hole's.
+    pub(crate) fn variable(&self, place: usize) -> usize
+        requires { place < length (places_to self.now.0.base 0 self.now.0.context) }
+        ensures { slice_get (places_to self.now.0.base 0 self.now.0.context) place ≡ Some result }
+    {
+        let base = self.base();
+        let mut left = place;
+        for i in 0..self.len() {
+            if self.target_at(i) == base {
+                if left == 0 {
+                    return i;
+                }
+                left -= 1;
+            }
+        }
+        unreachable!()
     }
 }
 

@@ -93,11 +93,11 @@ impl Tables {
         ensures { IfOk result (λ h. slice_get (heads_for (the_offers self.now.offers) (with_rows (without_witnesses self.now.basis.bank) (take witnesses (rows_in self.now.basis))) (first_hole [] (sketch_at (sketches_in self.now) p).partial)) place ≡ Some (the_hole_head h)) }
     {
         let base = self.open_holes.base(p);
-        let variables = self.open_holes.variables(self.alloc, p)?;
-        if place < variables.len() {
-            return Ok(HoleHead::Bound(small(variables[place])?));
+        let variables = self.open_holes.count_variables(p);
+        if place < variables {
+            return Ok(HoleHead::Bound(small(self.open_holes.variable(p, place))?));
         }
-        let behind = place - variables.len();
+        let behind = place - variables;
         let names = self.names.terms_of(&Ty::Base(base));
         if behind < names.len() {
             return Ok(HoleHead::Name(id_of(names, behind)));

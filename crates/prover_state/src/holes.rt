@@ -1,5 +1,5 @@
 //! The holes of partial terms.
-ghost use Rattle.std.specs.Prelude.{◌≡◌, ◌<◌, ◌++◌, List, [], ◌∷◌, length, nat_eq, Some, slice_get, option_map, option_and_then, IfOk, OnOk};
+ghost use Rattle.std.specs.Prelude.{◌≡◌, ◌<◌, ◌++◌, List, [], ◌∷◌, length, nat_eq, Some, slice_get, option_map, option_and_then, IsSome, IfOk, OnOk};
 ghost use Rattle.stt_core.specs.Typing.{type_of};
 ghost use Rattle.stt_core.specs.View.{the_type};
 ghost use Rattle.term_bank.specs.Content.{content_scope};
@@ -13,6 +13,7 @@ use crate::cells::{Cell, Cells};
 use crate::contexts::Contexts;
 use crate::fitting::small;
 use crate::head::{HoleHead, head_of};
+use crate::head_types::HeadTypes;
 use std::alloc::{AllocError, Global};
 use std::marker::Model;
 use stt_core::Ty;
@@ -24,6 +25,7 @@ pub struct OpenHoles {
     cells: Cells,
     lists: Vec<u32>,
     contexts: Contexts,
+    logical: HeadTypes,
 }
 
 impl Model for OpenHoles {
@@ -44,13 +46,14 @@ impl Model for OpenHoles {
 }
 
 impl OpenHoles {
-    pub fn new(alloc: Global) -> OpenHoles
+    pub(crate) fn new(alloc: Global, logical: HeadTypes) -> OpenHoles
         ensures { result ≡ [] }
     {
         OpenHoles {
             cells: Cells::new(alloc),
             lists: Vec::new(alloc),
             contexts: Contexts::new(alloc),
+            logical,
         }
     }
 
@@ -76,14 +79,26 @@ impl OpenHoles {
         }
     }
 
-    /// The variables that fit the first hole of a partial term.
-    pub fn variables(&self, alloc: Global, p: usize) -> Result<Vec<usize>, AllocError>
+    /// How many variables fit the first hole of a partial term.
+    pub fn count_variables(&self, p: usize) -> usize
         requires { p < length self.now }
-        ensures { IfOk result (λ v. (holes : List Hole) → slice_get self.now p ≡ Some holes → v.items ≡ variables_for (leftmost holes)) }
+        ensures { (holes : List Hole) → slice_get self.now p ≡ Some holes → result ≡ length (variables_for (leftmost holes)) }
     {
         match self.first(p) {
-            Some(hole) => Ok(hole.variables(alloc)?),
-            None => Ok(Vec::new(alloc)),
+            Some(hole) => hole.count_variables(),
+            None => 0,
+        }
+    }
+
+    /// The variable at a place among those that fit the first hole of a partial term.
+    pub(crate) fn variable(&self, p: usize, place: usize) -> usize
+        requires number { p < length self.now }
+        requires within { (holes : List Hole) → slice_get self.now p ≡ Some holes → place < length (variables_for (leftmost holes)) }
+        ensures { (holes : List Hole) → slice_get self.now p ≡ Some holes → slice_get (variables_for (leftmost holes)) place ≡ Some result }
+    {
+        match self.first(p) {
+            Some(hole) => hole.variable(place),
+            None => unreachable!(),
         }
     }
 
@@ -106,14 +121,24 @@ impl OpenHoles {
         }
     }
 
-    /// The type of a head at the first hole of a partial term, where there is a hole and the head has a type there.
-    pub fn head_type(&self, bank: &Bank, p: usize, head: HoleHead) -> Result<Option<Ty>, AllocError>
-        requires { p < length self.now }
-        ensures { IfOk result (λ o. (holes : List Hole) → slice_get self.now p ≡ Some holes → option_map the_type o ≡ option_and_then (λ h. type_of (content_scope bank.now) h.context (the_hole_head head)) (leftmost holes)) }
+    /// The type of a head at the first hole of a partial term, where it has one.
+    pub fn head_type(
+        &self,
+        alloc: Global,
+        bank: &Bank,
+        p: usize,
+        head: HoleHead,
+    ) -> Result<Ty, AllocError>
+        requires number { p < length self.now }
+        requires typed { (holes : List Hole) → slice_get self.now p ≡ Some holes → IsSome (option_and_then (λ h. type_of (content_scope bank.now) h.context (the_hole_head head)) (leftmost holes)) }
+        ensures { IfOk result (λ ty. (holes : List Hole) → slice_get self.now p ≡ Some holes → Some (the_type ty) ≡ option_and_then (λ h. type_of (content_scope bank.now) h.context (the_hole_head head)) (leftmost holes)) }
     {
+        if let Some(ty) = self.logical.type_of(head) {
+            return Ok(ty.try_clone(alloc)?);
+        }
         match self.first(p) {
             Some(hole) => Ok(hole.head_type(bank, &head_of(head))?),
-            None => Ok(None),
+            None => unreachable!(),
         }
     }
 

@@ -8,6 +8,7 @@ mod command;
 mod contexts;
 mod fitting;
 mod head;
+mod head_types;
 mod holes;
 mod instance;
 mod noting;

@@ -8,16 +8,19 @@ ghost use Rattle.head_offers.specs.Offering.{the_offers};
 ghost use Rattle.prover_state.specs.Internal.Offering.{offered_among, ListsOffers};
 
 use crate::fitting::small;
+use crate::head_types::HeadTypes;
 use head_offers::{Offers, is_offered};
 use instantiate::{Enumerator, target_of};
 use std::alloc::{AllocError, Global};
 use stt_core::{Consts, Signature, Ty};
 
-/// What is offered, by numbers: the names by their target types, and the base types other than that of formulas.
+/// What is offered, by numbers: the names by their target types, and the base types other than that of formulas; and the types of the
+/// logic's own heads.
 #[derive(Drop)]
 pub(crate) struct Offered {
     pub(crate) names: Enumerator,
     pub(crate) bases: Vec<u32>,
+    pub(crate) logical: HeadTypes,
 }
 
 /// Lists a name of a type by its target type.
@@ -73,6 +76,11 @@ impl Offered {
     {
         let bases = offered_bases(alloc, offers, sig.bases.len())?;
         let names = names_by_target(alloc, &sig.consts, offers.names.as_slice())?;
-        Ok(Offered { names, bases })
+        let logical = HeadTypes::new(alloc)?;
+        Ok(Offered {
+            names,
+            bases,
+            logical,
+        })
     }
 }

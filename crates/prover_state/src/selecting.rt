@@ -5,12 +5,11 @@ ghost use Rattle.literal_map.specs.Atoms.{bank_atom};
 ghost use Rattle.search_spec.specs.Selections.{selections_in, with_selections};
 ghost use Rattle.prover_state.specs.Lasting.{lasting};
 ghost use Rattle.prover_state.specs.Internal.Names.{IsNumberIn, IsPlace};
-ghost use Rattle.prover_state.specs.Internal.Selecting.{head_selection, AreTaken};
+ghost use Rattle.prover_state.specs.Internal.Selecting.{head_selection};
 ghost use Rattle.prover_state.specs.Internal.Standing.{the_state, IsRightState};
 
 use crate::clauses::DEPTH;
 use crate::selected::{Selected, count_parts, part_of, selection_of};
-use crate::set::IdSet;
 use crate::tables::Core;
 use crate::waiting::Waiting;
 use command_queue::Weigher;
@@ -39,18 +38,16 @@ impl<W: Weigher<Waiting>> Core<W> {
     }
 
     /// Takes up what a term chooses or describes by, unless the term was walked before.
-    fn walk(&mut self, walked: &mut IdSet, id: Id) -> Result<(), AllocError>
+    fn walk(&mut self, id: Id) -> Result<(), AllocError>
         requires right { IsRightState self.old.tables self.old.plan }
         requires place { IsPlace self.old.tables.basis.bank.terms id }
-        requires taken { AreTaken (the_state self.old.tables self.old.plan) self.old.tables.basis.bank.terms walked.old }
         ensures state { OnOk result (the_state self.new.tables self.new.plan ≡ with_selections self.old.plan.rule.mode (selections_in (term_at self.old.tables.basis.bank.terms id)) (the_state self.old.tables self.old.plan)) }
-        ensures taken { OnOk result (AreTaken (the_state self.new.tables self.new.plan) self.old.tables.basis.bank.terms walked.new) }
         ensures right { OnOk result (IsRightState self.new.tables self.new.plan) }
-        ensures tables { OnOk result (self.new.tables ≡ record self.old.tables { chosen = self.new.tables.chosen; described = self.new.tables.described }) }
+        ensures tables { OnOk result (self.new.tables ≡ record self.old.tables { chosen = self.new.tables.chosen; described = self.new.tables.described; walked = self.new.tables.walked }) }
         ensures rule { OnOk result (self.new.plan.rule ≡ self.old.plan.rule) }
         ensures lasts { lasting self.new.tables ≡ lasting self.old.tables }
     {
-        if walked.contains(id) {
+        if self.tables.walked.contains(id) {
             return Ok(());
         }
         // The node is asked for its clause that the term is its term.
@@ -58,21 +55,21 @@ impl<W: Weigher<Waiting>> Core<W> {
         self.select_head(id)?;
         for i in 0..count_parts(&self.tables.basis.bank, id) {
             let part = part_of(&self.tables.basis.bank, id, i);
-            self.walk(walked, part)?;
+            self.walk(part)?;
         }
-        walked.insert(id)?;
+        self.tables.walked.insert(id)?;
         Ok(())
     }
 
     /// The closed predicates by which the atom of a literal chooses or describes, from left to right, are chosen by or described, unless
-    /// they were before. The walk takes room for each level of the atom, and below the depth at which literals enter the clauses there
-    /// is none.
+    /// they were before. Each term is walked once in a search. The walk takes room for each level of the atom, and below the depth at
+    /// which literals enter the clauses there is none.
     pub fn select(&mut self, lit: SatLit) -> Result<(), AllocError>
         requires right { IsRightState self.old.tables self.old.plan }
         requires number { IsNumberIn self.old.tables.basis.lits lit }
         ensures state { OnOk result (the_state self.new.tables self.new.plan ≡ with_selections self.old.plan.rule.mode (selections_in (bank_atom self.old.tables.basis.bank.terms self.old.tables.basis.lits lit.var.0)) (the_state self.old.tables self.old.plan)) }
         ensures right { OnOk result (IsRightState self.new.tables self.new.plan) }
-        ensures tables { OnOk result (self.new.tables ≡ record self.old.tables { chosen = self.new.tables.chosen; described = self.new.tables.described }) }
+        ensures tables { OnOk result (self.new.tables ≡ record self.old.tables { chosen = self.new.tables.chosen; described = self.new.tables.described; walked = self.new.tables.walked }) }
         ensures rule { OnOk result (self.new.plan.rule ≡ self.old.plan.rule) }
         ensures lasts { lasting self.new.tables ≡ lasting self.old.tables }
     {
@@ -80,7 +77,6 @@ impl<W: Weigher<Waiting>> Core<W> {
         if self.tables.basis.bank.depth(atom) > DEPTH {
             return Err(AllocError);
         }
-        let mut walked = IdSet::new(self.tables.alloc);
-        self.walk(&mut walked, atom)
+        self.walk(atom)
     }
 }

@@ -27,7 +27,11 @@ use tableau_clauses::StepTable;
 fn empty_tables(alloc: Global, basis: Basis, offers: Offers, offered: Offered) -> Tables
     ensures { AreEmpty basis offers offered result }
 {
-    let Offered { names, bases } = offered;
+    let Offered {
+        names,
+        bases,
+        logical,
+    } = offered;
     Tables {
         basis,
         steps: StepTable::new(alloc),
@@ -39,12 +43,13 @@ fn empty_tables(alloc: Global, basis: Basis, offers: Offers, offered: Offered) -
         terms: Enumerator::new(alloc),
         chosen: IdSet::new(alloc),
         described: IdSet::new(alloc),
+        walked: IdSet::new(alloc),
         offers,
         bases,
         names,
         takers: Enumerator::new(alloc),
         stems: Vec::new(alloc),
-        open_holes: OpenHoles::new(alloc),
+        open_holes: OpenHoles::new(alloc, logical),
         holes: ByBase::new(alloc),
         roots: Types::new(alloc),
         done: 0,

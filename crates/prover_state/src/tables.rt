@@ -31,10 +31,10 @@ pub struct Basis {
 
 /// What the search keeps beside the commands that wait: clauses, which the solver has too; the literals that were seen and those that were
 /// processed, of these in an index those that can be partners, and the places of the universal ones by the types over which they range;
-/// the terms by type; the predicates that were chosen by and those that were described; what is offered to holes, with the numbers of the
-/// base types and of the names that are, of these by their target types, and the numbers of the witnesses by theirs; the partial terms by
-/// what they grew from, with their holes, their numbers by the base types of their first holes, and their types; how many commands were
-/// carried out; and the moment from which delays count.
+/// the terms by type; the predicates that were chosen by and those that were described, and the terms that were walked for these; what is
+/// offered to holes, with the numbers of the base types and of the names that are, of these by their target types, and the numbers of the
+/// witnesses by theirs; the partial terms by what they grew from, with their holes, their numbers by the base types of their first holes,
+/// and their types; how many commands were carried out; and the moment from which delays count.
 #[derive(Drop)]
 pub struct Tables {
     pub basis: Basis,
@@ -47,6 +47,7 @@ pub struct Tables {
     pub terms: Enumerator,
     pub chosen: IdSet,
     pub described: IdSet,
+    pub walked: IdSet,
     pub offers: Offers,
     pub bases: Vec<u32>,
     pub names: Enumerator,

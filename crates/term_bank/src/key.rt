@@ -4,11 +4,11 @@ ghost use Rattle.std.specs.Prelude.{◌≡◌, fold};
 ghost use Rattle.std.specs.Cmp.Lexicographic.{pointwise};
 ghost use Rattle.stt_core.specs.View.{the_type, the_head};
 ghost use Rattle.term_bank.specs.Shape.{spine, same_shape};
-ghost use Rattle.term_bank.specs.Internal.ShapeHash.{stirred, mixed, type_number, head_writes, shape_writes};
+ghost use Rattle.term_bank.specs.Internal.ShapeHash.{stirred, mixed, type_number, head_number, head_writes, shape_number, shape_writes};
 ghost use Rattle.term_bank.specs.NodeView.{the_shape};
 ghost use Rattle.term_bank.specs.Internal.ShapeLaws.{node_partial_laws, node_laws, node_respects};
 
-use crate::node::{Ids, Node};
+use crate::node::{Id, Ids, Node};
 use std::hash::{Hash, Hasher};
 use stt_core::{Head, Ty};
 
@@ -69,43 +69,50 @@ fn type_number(ty: &Ty) -> u64
     }
 }
 
+/// A number of 64 bits for a head.
+fn head_number(head: &Head) -> u64
+    ensures { result ≡ head_number (the_head head.now) }
+{
+    match head {
+        Head::Bound(k) => mixed(9, u64::from(*k)),
+        Head::Name(k) => mixed(0, u64::from(*k)),
+        Head::Wit(k) => mixed(1, u64::from(*k)),
+        Head::False => 2,
+        Head::Not => 3,
+        Head::Imp => 4,
+        Head::All(a) => mixed(5, type_number(a)),
+        Head::Eq(a) => mixed(6, type_number(a)),
+        Head::Choice(a) => mixed(7, type_number(a)),
+        Head::Desc(a) => mixed(8, type_number(a)),
+    }
+}
+
+/// A number of 64 bits for a head, which has the first one, with arguments.
+fn spine_number(head: u64, args: &[Id]) -> u64
+    ensures { result ≡ fold mixed head args.now }
+{
+    let mut number = head;
+    for i in 0..args.len() {
+        number = mixed(number, u64::from(args[i]));
+    }
+    number
+}
+
+/// A number of 64 bits for a node.
+fn node_number(node: &Node) -> u64
+    ensures { result ≡ shape_number (the_shape node.now) }
+{
+    match node {
+        Node::Lam { ty, body } => mixed(mixed(10, type_number(ty)), u64::from(*body)),
+        Node::App { head, args } => spine_number(head_number(head), args.as_slice()),
+    }
+}
+
 /// Feeds a hasher with a head.
 pub fn hash_head<H: Hasher>(head: &Head, state: &mut H)
     ensures { state.new ≡ fold H.write state.old (head_writes (the_head head.now)) }
 {
-    match head {
-        Head::Bound(k) => {
-            state.write_u8(9);
-            state.write_u32(*k);
-        }
-        Head::Name(k) => {
-            state.write_u8(0);
-            state.write_u32(*k);
-        }
-        Head::Wit(k) => {
-            state.write_u8(1);
-            state.write_u32(*k);
-        }
-        Head::False => state.write_u8(2),
-        Head::Not => state.write_u8(3),
-        Head::Imp => state.write_u8(4),
-        Head::All(a) => {
-            state.write_u8(5);
-            state.write_u64(type_number(a));
-        }
-        Head::Eq(a) => {
-            state.write_u8(6);
-            state.write_u64(type_number(a));
-        }
-        Head::Choice(a) => {
-            state.write_u8(7);
-            state.write_u64(type_number(a));
-        }
-        Head::Desc(a) => {
-            state.write_u8(8);
-            state.write_u64(type_number(a));
-        }
-    }
+    state.write_u64(head_number(head));
 }
 
 impl Hash for Node {
@@ -114,16 +121,6 @@ impl Hash for Node {
     ghost respects_eq = { node_respects };
 
     fn hash<H: Hasher>(&self, state: &mut H) {
-        match self {
-            Node::Lam { ty, body } => {
-                state.write_u8(10);
-                state.write_u64(type_number(ty));
-                body.hash(state);
-            }
-            Node::App { head, args } => {
-                hash_head(head, state);
-                args.as_slice().hash(state);
-            }
-        }
+        state.write_u64(node_number(self));
     }
 }

@@ -20,6 +20,7 @@ pub record AreEmpty (g : Basis) (given : Offers) (listed : Offered) (t : Tables)
   pub terms : t.terms ≡ []
   pub chosen : t.chosen ≡ []
   pub described : t.described ≡ []
+  pub walked : t.walked ≡ []
   pub offers : t.offers ≡ given
   pub bases : t.bases.items ≡ listed.bases.items
   pub names : t.names ≡ listed.names

@@ -7,7 +7,6 @@ use Rattle.stt_core.specs.SameTerm.{same_term}
 use Rattle.search_spec.specs.Each.{Each}
 use Rattle.search_spec.specs.Selections.{Selection, by_choice, by_description, selection_by, selections_in}
 use Rattle.search_spec.specs.Spine.{head_of, arguments}
-use Rattle.search_spec.specs.State.{State}
 use Rattle.term_bank.specs.Terms.{term_at}
 use Rattle.prover_state.specs.declared.selected.Selected.{Selected}
 use Rattle.prover_state.specs.declared.selected.Selected.TheVariants.{Chosen, Described, Nothing}
@@ -33,11 +32,11 @@ IsSelectedIn terms ps (Chosen f) = (f < length terms) × ((a : SimpleType) × (p
 IsSelectedIn terms ps (Described f) = (f < length terms) × ((a : SimpleType) × (ps ≡ by_description a (term_at terms f) ∷ []))
 IsSelectedIn terms ps Nothing = ps ≡ []
 
--- the predicate was chosen by, or described, before
-abbrev pub IsTakenSelection : State → Selection → Type 0
-IsTakenSelection s (by_choice a f) = list_any (same_term f) s.chosen ≡ true
-IsTakenSelection s (by_description a f) = list_any (same_term f) s.described ≡ true
+-- the predicate is among those that were chosen by, or among those that were described
+abbrev pub IsTakenSelection : List Lambda → List Lambda → Selection → Type 0
+IsTakenSelection chosen described (by_choice a f) = list_any (same_term f) chosen ≡ true
+IsTakenSelection chosen described (by_description a f) = list_any (same_term f) described ≡ true
 
--- all choices and descriptions in the terms at these places were taken up before
-abbrev pub AreTaken : State → List Lambda → List ℕ → Type 0
-AreTaken s terms ids = Each (λ id. Each (IsTakenSelection s) (selections_in (term_at terms id))) ids
+-- all choices and descriptions in the terms at these places are
+abbrev pub AreTaken : List Lambda → List Lambda → List Lambda → List ℕ → Type 0
+AreTaken chosen described terms ids = Each (λ id. Each (IsTakenSelection chosen described) (selections_in (term_at terms id))) ids

@@ -1,5 +1,5 @@
 -- What of a node goes into its hash.
-use Rattle.std.specs.Prelude.{ℕ, ◌+◌, ◌*◌, ◌%◌, ◌^◌, ◌++◌, []}
+use Rattle.std.specs.Prelude.{ℕ, ◌+◌, ◌*◌, ◌%◌, ◌^◌, fold}
 use Rattle.std.specs.Hash as fed
 use Rattle.std.specs.Hash.{HashWrites}
 use Rattle.stt_core.specs.SimpleType.{SimpleType, base, arrow}
@@ -19,23 +19,31 @@ abbrev pub type_number : SimpleType → ℕ
 type_number (base n) = mixed 0 n
 type_number (arrow a b) = mixed (type_number a) (type_number b)
 
-abbrev pub constant_writes : Constant → HashWrites
-constant_writes (name k) = fed.u8 0 ++ fed.u32 k
-constant_writes (witness k) = fed.u8 1 ++ fed.u32 k
-constant_writes falsity = fed.u8 2
-constant_writes negation = fed.u8 3
-constant_writes implication = fed.u8 4
-constant_writes (all a) = fed.u8 5 ++ fed.u64 (type_number a)
-constant_writes (equality a) = fed.u8 6 ++ fed.u64 (type_number a)
-constant_writes (choice a) = fed.u8 7 ++ fed.u64 (type_number a)
-constant_writes (description a) = fed.u8 8 ++ fed.u64 (type_number a)
+abbrev pub constant_number : Constant → ℕ
+constant_number (name k) = mixed 0 k
+constant_number (witness k) = mixed 1 k
+constant_number falsity = 2
+constant_number negation = 3
+constant_number implication = 4
+constant_number (all a) = mixed 5 (type_number a)
+constant_number (equality a) = mixed 6 (type_number a)
+constant_number (choice a) = mixed 7 (type_number a)
+constant_number (description a) = mixed 8 (type_number a)
+
+-- .. for a head
+abbrev pub head_number : Lambda → ℕ
+head_number (bound k) = mixed 9 k
+head_number (constant c) = constant_number c
+head_number (lam a s) = 0
+head_number (app s u) = 0
 
 abbrev pub head_writes : Lambda → HashWrites
-head_writes (bound k) = fed.u8 9 ++ fed.u32 k
-head_writes (constant c) = constant_writes c
-head_writes (lam a s) = []
-head_writes (app s u) = []
+head_writes h = fed.u64 (head_number h)
+
+-- .. for what stands at a root
+abbrev pub shape_number : Shape → ℕ
+shape_number (abstraction a i) = mixed (mixed 10 (type_number a)) i
+shape_number (spine h is) = fold mixed (head_number h) is
 
 abbrev pub shape_writes : Shape → HashWrites
-shape_writes (abstraction a i) = fed.u8 10 ++ fed.u64 (type_number a) ++ fed.u32 i
-shape_writes (spine h is) = head_writes h ++ fed.slice fed.u32 is
+shape_writes s = fed.u64 (shape_number s)

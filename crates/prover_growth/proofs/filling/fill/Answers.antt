@@ -13,6 +13,7 @@ use Rattle.prover_state.specs.Internal.Heads.{the_hole_head, IsStem}
 use Rattle.prover_state.specs.Internal.Names.{sketch_at}
 use Rattle.prover_state.specs.Internal.Standing.{scope_by, setting_by, sketches_in, the_state}
 use Rattle.prover_state.proofs.HoleLaws.{holes-length}
+use Rattle.prover_growth.specs.Internal.Stems.{IsStemType}
 use Rattle.prover_growth.proofs.OpeningLaws.{same-grows}
 use Rattle.prover_growth.proofs.TakingLaws.{further, last-is, no-hole-left, hole-left, whole-term, carried-last, carried-open}
 use Rattle.prover_growth.proofs.filling.fill.Goals as goal
@@ -75,6 +76,12 @@ open_stem-requires-clause-stem g c =
     let u = the_hole_head c.numbered_head-filler.result in
     let S : ℕ → Type 0 = λ k. IsStem (scope_by t.basis) (sketches_in t) (Grown k c.numbered_head-filler.result) in
     subst S (sym c.in_ok-number.ensures) (c.requires.numbers.0, sketch_takes (scope_by t.basis) x u (subst G (sym c.numbered_head-filler.ensures) c.requires.fits))
+
+pub open_stem-requires-clause-typed : goal.open_stem-requires-clause-typed
+open_stem-requires-clause-typed g c =
+    let t = c.args.core.now.tables in
+    let T : ℕ → Type 0 = λ k. IsStemType (scope_by t.basis) (sketches_in t) (Grown k c.numbered_head-filler.result) (the_type c.in_ok-ty.ty) in
+    subst T (sym c.in_ok-number.ensures) (λ takes. c.in_ok-ty.ensures takes)
 
 pub returns-clause-state : goal.returns-clause-state
 returns-clause-state g c =

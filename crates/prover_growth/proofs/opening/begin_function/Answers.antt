@@ -1,4 +1,4 @@
-use Rattle.std.proofs.Common.{ap, ◌∙◌}
+use Rattle.std.proofs.Common.{ap, sym, ◌∙◌}
 use Rattle.stt_core.specs.SimpleType.{SimpleType}
 use Rattle.stt_core.specs.View.{the_type}
 use Rattle.search_spec.specs.Partial.{blank_partial}
@@ -15,3 +15,6 @@ returns-clause-state g c =
     c.in_ok-open_stem.ensures.state
     ∙ ap (λ (x : SimpleType). with_opening (setting_by t q) (record { type = x; partial = blank_partial x }) s) (ap the_type c.in_ok-blank.ensures.ok ∙ c.in_ok-try_clone.ensures)
     ∙ function-begins (setting_by t q) s (the_type c.args.ty.now) c.requires.function.0 c.requires.function.1.0 c.requires.function.1.1
+
+pub open_stem-requires-clause-typed : goal.open_stem-requires-clause-typed
+open_stem-requires-clause-typed g c = sym (ap the_type c.in_ok-blank.ensures.ok ∙ c.in_ok-try_clone.ensures)

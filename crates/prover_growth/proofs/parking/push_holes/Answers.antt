@@ -8,24 +8,18 @@ use Rattle.prover_state.specs.Internal.Names.{sketch_at}
 use Rattle.prover_state.specs.Internal.Standing.{scope_by, sketches_in}
 use Rattle.prover_state.proofs.FilledHoles.{holes-blank}
 use Rattle.prover_state.proofs.HoleLaws.{holes-at, holes-length}
+use Rattle.prover_growth.specs.Internal.Stems.{IsStemType}
 use Rattle.prover_growth.proofs.TakingLaws.{holes-after}
 use Rattle.prover_growth.proofs.parking.push_holes.Goals as goal
 
 pub returns-in_ok-push_blank-in-Blank-clause-holes : goal.returns-in_ok-push_blank-in-Blank-clause-holes
 returns-in_ok-push_blank-in-Blank-clause-holes c =
     let t = c.args.tables.now in
+    let Typed : Stem → Type 0 = λ s. IsStemType (scope_by t.basis) (sketches_in t) s (the_type c.args.ty.now) in
     let Of : Stem → List Hole = λ s. holes_in [] (sketch_of (scope_by t.basis) (sketches_in t) s).partial in
-    c.in_ok-push_blank-in-Blank.ensures ∙ ap (λ hs. t.open_holes ++ hs ∷ []) (ap (λ a. blank_hole [] (the_type a) ∷ []) c.deref.ensures ∙ sym (holes-blank [] (the_type c.in-Blank.ty.value)) ∙ ap Of (sym c.in-Blank.is))
-
-pub taken_type-requires-clause-number : goal.taken_type-requires-clause-number
-taken_type-requires-clause-number c =
-    let t = c.args.tables.now in
-    (subst (IsStem (scope_by t.basis) (sketches_in t)) c.in-Grown.is c.requires.stem).0
-
-pub taken_type-requires-clause-takes : goal.taken_type-requires-clause-takes
-taken_type-requires-clause-takes c =
-    let t = c.args.tables.now in
-    (subst (IsStem (scope_by t.basis) (sketches_in t)) c.in-Grown.is c.requires.stem).1
+    let type = subst Typed c.in-Blank.is c.requires.typed in
+    c.in_ok-push_blank-in-Blank.ensures
+    ∙ ap (λ hs. t.open_holes ++ hs ∷ []) (ap (λ a. blank_hole [] a ∷ []) type ∙ sym (holes-blank [] (the_type c.in-Blank.field-0.value)) ∙ ap Of (sym c.in-Blank.is))
 
 pub push_grown-requires : goal.push_grown-requires
 push_grown-requires c =
@@ -42,6 +36,8 @@ returns-in_ok-push_grown-in-Grown-clause-holes c =
     let p = c.in-Grown.parent in
     let u = the_hole_head c.in-Grown.head in
     let stem = subst (IsStem (scope_by t.basis) (sketches_in t)) c.in-Grown.is c.requires.stem in
+    let Typed : Stem → Type 0 = λ s. IsStemType (scope_by t.basis) (sketches_in t) s (the_type c.args.ty.now) in
+    let type = subst Typed c.in-Grown.is c.requires.typed in
     let Of : Stem → List Hole = λ s. holes_in [] (sketch_of (scope_by t.basis) (sketches_in t) s).partial in
     c.in_ok-push_grown-in-Grown.ensures (holes_in [] (sketch_at (sketches_in t) p).partial) (holes-at t q r p stem.0)
-    ∙ ap (λ hs. t.open_holes ++ hs ∷ []) (sym (holes-after t q r p stem.0 u stem.1 (the_type c.in_ok-ty-in-Grown.ty) (c.in_ok-ty-in-Grown.ensures stem.1)) ∙ ap Of (sym c.in-Grown.is))
+    ∙ ap (λ hs. t.open_holes ++ hs ∷ []) (sym (holes-after t q r p stem.0 u stem.1 (the_type c.args.ty.now) (type stem.1)) ∙ ap Of (sym c.in-Grown.is))

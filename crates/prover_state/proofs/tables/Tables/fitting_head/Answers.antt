@@ -1,5 +1,4 @@
-use Rattle.std.proofs.Common.{◌≡◌, ◌<◌, ◌≤◌, ◌-◌, true, ℕ, List, [], length, take, slice_get, Some, sym, ap, ap₂, ◌∙◌, arith}
-use Rattle.std.proofs.lemmas.Option.{slice_get-get_or}
+use Rattle.std.proofs.Common.{◌≡◌, ◌≤◌, ◌-◌, true, ℕ, List, [], length, take, slice_get, Some, sym, ap, ap₂, ◌∙◌, arith}
 use Rattle.stt_core.specs.Lambda.{bound}
 use Rattle.tableau_calculus.specs.Witnesses.{with_rows}
 use Rattle.search_spec.specs.Heads.{heads_for}
@@ -15,8 +14,13 @@ use Rattle.prover_state.proofs.HoleLaws.{leftmost-first, holes-at, base-at}
 use Rattle.prover_state.proofs.FittingLaws.{heads-list, variable-at, name-at, later-within, later-longer, later-same, later-at}
 use Rattle.prover_state.proofs.tables.Tables.fitting_head.Goals as goal
 
-pub returns-then-place-len : goal.returns-then-place-len
-returns-then-place-len c =
+pub variable-requires-clause-within : goal.variable-requires-clause-within
+variable-requires-clause-within c = λ holes at.
+    let e = c.count_variables-variables.ensures holes at in
+    omega (arith, e, c.if-place-variables.true)
+
+pub returns-then-place-variables : goal.returns-then-place-variables
+returns-then-place-variables c =
     let t = c.args.self.now in
     let q = c.requires.right.0 in
     let r = c.requires.right.1 in
@@ -26,12 +30,10 @@ returns-then-place-len c =
     let offers = the_offers t.offers in
     let chooses = chooses_for offers scope o in
     let ns = names_for offers scope (base_of o) in
-    let variables : c.in_ok-variables.variables.items ≡ vs = c.in_ok-variables.ensures (holes_in [] (sketch_at (sketches_in t) c.args.p).partial) (holes-at t q r c.args.p c.requires.number) ∙ ap variables_for (leftmost-first [] (sketch_at (sketches_in t) c.args.p).partial) in
+    let count : c.count_variables-variables.result ≡ length vs = c.count_variables-variables.ensures (holes_in [] (sketch_at (sketches_in t) c.args.p).partial) (holes-at t q r c.args.p c.requires.number) ∙ ap (λ x. length (variables_for x)) (leftmost-first [] (sketch_at (sketches_in t) c.args.p).partial) in
     let are = heads-list offers scope o c.args.place c.requires.within in
-    let got = c.in_ok-variables.variables.items in
-    let within : c.args.place < length got = omega (arith, c.if-place-len.true, c.len.ensures, c.in_ok-variables.variables.ok.0) in
-    variable-at vs ns (later_heads offers scope (base_of o) chooses) (heads_for offers scope o) are c.args.place c.index.result.now
-    (ap (λ (xs : List ℕ). slice_get xs c.args.place) (sym variables) ∙ slice_get-get_or got c.args.place c.index.result.now within ∙ ap Some (sym c.index.ensures))
+    variable-at vs ns (later_heads offers scope (base_of o) chooses) (heads_for offers scope o) are c.args.place c.variable.result
+    (ap (λ x. slice_get (variables_for x) c.args.place) (sym (leftmost-first [] (sketch_at (sketches_in t) c.args.p).partial)) ∙ c.variable.ensures (holes_in [] (sketch_at (sketches_in t) c.args.p).partial) (holes-at t q r c.args.p c.requires.number))
     ∙ ap (λ k. Some (bound k)) (sym c.in_ok-small.ensures)
 
 pub returns-then-behind-names : goal.returns-then-behind-names
@@ -45,12 +47,11 @@ returns-then-behind-names c =
     let offers = the_offers t.offers in
     let chooses = chooses_for offers scope o in
     let ns = names_for offers scope (base_of o) in
-    let variables : c.in_ok-variables.variables.items ≡ vs = c.in_ok-variables.ensures (holes_in [] (sketch_at (sketches_in t) c.args.p).partial) (holes-at t q r c.args.p c.requires.number) ∙ ap variables_for (leftmost-first [] (sketch_at (sketches_in t) c.args.p).partial) in
+    let count : c.count_variables-variables.result ≡ length vs = c.count_variables-variables.ensures (holes_in [] (sketch_at (sketches_in t) c.args.p).partial) (holes-at t q r c.args.p c.requires.number) ∙ ap (λ x. length (variables_for x)) (leftmost-first [] (sketch_at (sketches_in t) c.args.p).partial) in
     let are = heads-list offers scope o c.args.place c.requires.within in
     let same = base-at t q r c.args.p c.requires.number c.base-base.result c.base-base.ensures in
     let names : c.terms_of-names.result.now ≡ ns = c.terms_of-names.ensures ∙ r.offered.names c.base-base.result ∙ ap (names_for offers scope) same in
-    let count : c.len-2.result ≡ length vs = let e = ap length variables in omega (arith, c.len-2.ensures, c.in_ok-variables.variables.ok.0, e) in
-    let passed : length vs ≤ c.args.place = let e = ap length variables in omega (arith, c.if-place-len.false, c.len.ensures, c.in_ok-variables.variables.ok.0, e) in
+    let passed : length vs ≤ c.args.place = omega (arith, c.if-place-variables.false, count) in
     let named = ap length names in
     name-at vs ns (later_heads offers scope (base_of o) chooses) (heads_for offers scope o) are c.args.place c.id_of.result passed
     (ap₂ (λ (xs : List ℕ) n. slice_get xs (c.args.place - n)) (sym names) (sym count) ∙ c.id_of.ensures)
@@ -66,12 +67,11 @@ later_head-requires-clause-within c =
     let offers = the_offers t.offers in
     let chooses = chooses_for offers scope o in
     let ns = names_for offers scope (base_of o) in
-    let variables : c.in_ok-variables.variables.items ≡ vs = c.in_ok-variables.ensures (holes_in [] (sketch_at (sketches_in t) c.args.p).partial) (holes-at t q r c.args.p c.requires.number) ∙ ap variables_for (leftmost-first [] (sketch_at (sketches_in t) c.args.p).partial) in
+    let count : c.count_variables-variables.result ≡ length vs = c.count_variables-variables.ensures (holes_in [] (sketch_at (sketches_in t) c.args.p).partial) (holes-at t q r c.args.p c.requires.number) ∙ ap (λ x. length (variables_for x)) (leftmost-first [] (sketch_at (sketches_in t) c.args.p).partial) in
     let are = heads-list offers scope o c.args.place c.requires.within in
     let same = base-at t q r c.args.p c.requires.number c.base-base.result c.base-base.ensures in
     let names : c.terms_of-names.result.now ≡ ns = c.terms_of-names.ensures ∙ r.offered.names c.base-base.result ∙ ap (names_for offers scope) same in
-    let count : c.len-2.result ≡ length vs = let e = ap length variables in omega (arith, c.len-2.ensures, c.in_ok-variables.variables.ok.0, e) in
-    let passed : length vs ≤ c.args.place = let e = ap length variables in omega (arith, c.if-place-len.false, c.len.ensures, c.in_ok-variables.variables.ok.0, e) in
+    let passed : length vs ≤ c.args.place = omega (arith, c.if-place-variables.false, count) in
     let named = ap length names in
     let within = later-within vs ns (later_heads offers scope (base_of o) chooses) (heads_for offers scope o) are c.args.place c.requires.within passed (omega (arith, c.if-behind-names.false, count, named)) in
     let longer = later-longer offers scope (base_of o) chooses in
@@ -89,16 +89,15 @@ returns c =
     let offers = the_offers t.offers in
     let chooses = chooses_for offers scope o in
     let ns = names_for offers scope (base_of o) in
-    let variables : c.in_ok-variables.variables.items ≡ vs = c.in_ok-variables.ensures (holes_in [] (sketch_at (sketches_in t) c.args.p).partial) (holes-at t q r c.args.p c.requires.number) ∙ ap variables_for (leftmost-first [] (sketch_at (sketches_in t) c.args.p).partial) in
+    let count : c.count_variables-variables.result ≡ length vs = c.count_variables-variables.ensures (holes_in [] (sketch_at (sketches_in t) c.args.p).partial) (holes-at t q r c.args.p c.requires.number) ∙ ap (λ x. length (variables_for x)) (leftmost-first [] (sketch_at (sketches_in t) c.args.p).partial) in
     let are = heads-list offers scope o c.args.place c.requires.within in
     let same = base-at t q r c.args.p c.requires.number c.base-base.result c.base-base.ensures in
     let names : c.terms_of-names.result.now ≡ ns = c.terms_of-names.ensures ∙ r.offered.names c.base-base.result ∙ ap (names_for offers scope) same in
-    let count : c.len-2.result ≡ length vs = let e = ap length variables in omega (arith, c.len-2.ensures, c.in_ok-variables.variables.ok.0, e) in
-    let passed : length vs ≤ c.args.place = let e = ap length variables in omega (arith, c.if-place-len.false, c.len.ensures, c.in_ok-variables.variables.ok.0, e) in
+    let passed : length vs ≤ c.args.place = omega (arith, c.if-place-variables.false, count) in
     let named = ap length names in
     let place = c.args.place - length vs - length ns in
     let behind : length ns ≤ c.args.place - length vs = omega (arith, c.if-behind-names.false, count, named) in
     let within = later-within vs ns (later_heads offers scope (base_of o) chooses) (heads_for offers scope o) are c.args.place c.requires.within passed behind in
-    let at = ap (λ b. slice_get (later_heads offers scope b true) (c.args.place - c.len-2.result - length c.terms_of-names.result.now)) (sym same) ∙ c.later_head.ensures in
+    let at = ap (λ b. slice_get (later_heads offers scope b true) (c.args.place - c.count_variables-variables.result - length c.terms_of-names.result.now)) (sym same) ∙ c.later_head.ensures in
     later-at vs ns (later_heads offers scope (base_of o) chooses) (heads_for offers scope o) are c.args.place (the_hole_head c.later_head.result) passed behind
     (later-same offers scope (base_of o) chooses place within ∙ ap₂ (λ m n. slice_get (later_heads offers scope (base_of o) true) (c.args.place - m - n)) (sym count) (sym named) ∙ at)
