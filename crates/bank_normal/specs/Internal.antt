@@ -7,3 +7,4 @@ pub mod Parts
 pub mod LiftedHeads
 pub mod FindingForms
 pub mod Connectives
+pub mod Expanded

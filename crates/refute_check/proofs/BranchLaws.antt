@@ -10,8 +10,9 @@ use Rattle.tableau_calculus.specs.declared.refutation.Line.{Line}
 use Rattle.tableau_calculus.proofs.ListLaws.{untrue}
 use Rattle.tableau_calculus.proofs.AddedLaws.{same_sign-true}
 use Rattle.refute_check.specs.Internal.Numbers.{number_in}
-use Rattle.refute_check.specs.Internal.Branches.{branch_has, IsLiteralOf, Represents, AreNumberedBranch, Grow, AreBranches}
+use Rattle.refute_check.specs.Internal.Branches.{branch_has, line_has, IsLiteralOf, RepresentsBy, Represents, AreNumberedBranch, Grow, AreBranches}
 use Rattle.refute_check.specs.declared.branch.Branch.{Branch}
+use Rattle.refute_check.specs.declared.branch.LineBranch.{LineBranch}
 use Rattle.refute_check.proofs.NumberLaws.{number_in-at}
 use Rattle.refute_check.proofs.SetLaws.{or_split}
 
@@ -69,12 +70,16 @@ module _ (terms : List Lambda) where
         (Contains-push_cases ls l (record { positive = sign; atom = i.atom }) i.among);
   }
 
+-- the same literals in another form
+pub represents-same : {terms : List Lambda} {ls : List Literal} (has other : Bool → ℕ → Bool) → ((sign : Bool) (k : ℕ) → other sign k ≡ has sign k) → RepresentsBy terms ls has → RepresentsBy terms ls other
+represents-same has other e h = record { sound = λ sign k i. h.sound sign k (sym (e sign k) ∙ i); whole = λ sign k l. e sign k ∙ h.whole sign k l }
+
 -- more terms
 pub numbered-grown : (ts us : List Lambda) (ls : List Literal) → AreNumberedBranch ts ls → AreNumberedBranch (ts ++ us) ls
 numbered-grown ts us ls h l c = let n = h l c in (n.0, number_in-grown ts us l.atom n.0 n.1)
 
-pub represents-grown : (ts us : List Lambda) (ls : List Literal) (b : Branch) → AreNumberedBranch ts ls → Represents ts ls b → Represents (ts ++ us) ls b
-represents-grown ts us ls b n h = record {
+pub represents-grown : (ts us : List Lambda) (ls : List Literal) (has : Bool → ℕ → Bool) → AreNumberedBranch ts ls → RepresentsBy ts ls has → RepresentsBy (ts ++ us) ls has
+represents-grown ts us ls has n h = record {
   sound = λ sign k e. let l = h.sound sign k e in record { atom = l.atom; numbered = number_in-grown ts us l.atom k l.numbered; among = l.among };
   whole = λ sign k l.
       let m = n (record { positive = sign; atom = l.atom }) l.among in
@@ -83,24 +88,24 @@ represents-grown ts us ls b n h = record {
       h.whole sign k (record { atom = l.atom; numbered = m.1 ∙ ap Some equal; among = l.among });
 }
 
-pub branches-grown : (ts us : List Lambda) (lines : List Line) (bs : List Branch) → AreBranches ts lines bs → AreBranches (ts ++ us) lines bs
+pub branches-grown : (ts us : List Lambda) (lines : List Line) (bs : List LineBranch) → AreBranches ts lines bs → AreBranches (ts ++ us) lines bs
 branches-grown ts us [] [] h = tt
 branches-grown ts us [] (b ∷ bs) h = absurd h
 branches-grown ts us (line ∷ lines) [] h = absurd h
 branches-grown ts us (line ∷ lines) (b ∷ bs) h =
-    (numbered-grown ts us line.branch h.0, represents-grown ts us line.branch b h.0 h.1, branches-grown ts us lines bs h.2)
+    (numbered-grown ts us line.branch h.0, represents-grown ts us line.branch (line_has b) h.0 h.1, branches-grown ts us lines bs h.2)
 
-pub branches-append : (ts : List Lambda) (lines : List Line) (bs : List Branch) (line : Line) (b : Branch) → AreBranches ts lines bs → AreNumberedBranch ts line.branch → Represents ts line.branch b → AreBranches ts (lines ++ line ∷ []) (bs ++ b ∷ [])
+pub branches-append : (ts : List Lambda) (lines : List Line) (bs : List LineBranch) (line : Line) (b : LineBranch) → AreBranches ts lines bs → AreNumberedBranch ts line.branch → RepresentsBy ts line.branch (line_has b) → AreBranches ts (lines ++ line ∷ []) (bs ++ b ∷ [])
 branches-append ts [] [] line b h n r = (n, r, tt)
 branches-append ts [] (c ∷ bs) line b h n r = absurd h
 branches-append ts (l ∷ lines) [] line b h n r = absurd h
 branches-append ts (l ∷ lines) (c ∷ bs) line b h n r = (h.0, h.1, branches-append ts lines bs line b h.2 n r)
 
-pub branches-grow : (ts us : List Lambda) (lines : List Line) (bs : List Branch) → Grow ts us → AreBranches ts lines bs → AreBranches us lines bs
+pub branches-grow : (ts us : List Lambda) (lines : List Line) (bs : List LineBranch) → Grow ts us → AreBranches ts lines bs → AreBranches us lines bs
 branches-grow ts us lines bs g h = subst (λ vs. AreBranches vs lines bs) (sym g.1) (branches-grown ts g.0 lines bs h)
 
 pub numbered-grow : (ts us : List Lambda) (ls : List Literal) → Grow ts us → AreNumberedBranch ts ls → AreNumberedBranch us ls
 numbered-grow ts us ls g h = subst (λ vs. AreNumberedBranch vs ls) (sym g.1) (numbered-grown ts g.0 ls h)
 
 pub represents-grow : (ts us : List Lambda) (ls : List Literal) (b : Branch) → Grow ts us → AreNumberedBranch ts ls → Represents ts ls b → Represents us ls b
-represents-grow ts us ls b g n h = subst (λ vs. Represents vs ls b) (sym g.1) (represents-grown ts g.0 ls b n h)
+represents-grow ts us ls b g n h = subst (λ vs. Represents vs ls b) (sym g.1) (represents-grown ts g.0 ls (branch_has b) n h)

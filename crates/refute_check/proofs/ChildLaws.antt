@@ -8,27 +8,28 @@ use Rattle.tableau_calculus.specs.Accepted.{Within, IsClosedBranch}
 use Rattle.tableau_calculus.specs.declared.refutation.Line.{Line}
 use Rattle.tableau_calculus.proofs.ListLaws.{contains-within, within-each}
 use Rattle.refute_check.specs.Internal.Numbers.{number_in}
-use Rattle.refute_check.specs.Internal.Branches.{branch_has, IsLiteralOf, Represents, AreNumberedBranch, AreBranches}
+use Rattle.refute_check.specs.Internal.Branches.{branch_has, line_has, IsLiteralOf, RepresentsBy, Represents, AreNumberedBranch, AreBranches}
 use Rattle.refute_check.specs.declared.branch.Branch.{Branch}
+use Rattle.refute_check.specs.declared.branch.LineBranch.{LineBranch}
 use Rattle.refute_check.proofs.BranchLaws.{same_number}
 use Rattle.refute_check.proofs.SetLaws.{or_split}
 
 -- the branch of the line at a place, by numbers
-pub record LineAt (terms : List Lambda) (lines : List Line) (j : ℕ) (b : Branch) : Type 0 where
+pub record LineAt (terms : List Lambda) (lines : List Line) (j : ℕ) (b : LineBranch) : Type 0 where
   pub line : Line
   pub at : slice_get lines j ≡ Some line
   pub numbered : AreNumberedBranch terms line.branch
-  pub represents : Represents terms line.branch b
+  pub represents : RepresentsBy terms line.branch (line_has b)
 
-pub line_at : (terms : List Lambda) (lines : List Line) (bs : List Branch) (j : ℕ) (b : Branch) → AreBranches terms lines bs → slice_get bs j ≡ Some b → LineAt terms lines j b
+pub line_at : (terms : List Lambda) (lines : List Line) (bs : List LineBranch) (j : ℕ) (b : LineBranch) → AreBranches terms lines bs → slice_get bs j ≡ Some b → LineAt terms lines j b
 line_at terms lines [] j b h e = cc
 line_at terms [] (c ∷ bs) j b h e = absurd h
 line_at terms (line ∷ lines) (c ∷ bs) zero b h e =
-    let same : c ≡ b = cc in record { line = line; at = refl; numbered = h.0; represents = subst (Represents terms line.branch) same h.1 }
+    let same : c ≡ b = cc in record { line = line; at = refl; numbered = h.0; represents = subst (λ x. RepresentsBy terms line.branch (line_has x)) same h.1 }
 line_at terms (line ∷ lines) (c ∷ bs) (suc j) b h e =
     let l = line_at terms lines bs j b h.2 e in record { line = l.line; at = l.at; numbered = l.numbered; represents = l.represents }
 
-pub no_line_at : (terms : List Lambda) (lines : List Line) (bs : List Branch) (j : ℕ) (line : Line) → AreBranches terms lines bs → slice_get bs j ≡ None → slice_get lines j ≡ Some line → ⊥
+pub no_line_at : (terms : List Lambda) (lines : List Line) (bs : List LineBranch) (j : ℕ) (line : Line) → AreBranches terms lines bs → slice_get bs j ≡ None → slice_get lines j ≡ Some line → ⊥
 no_line_at terms [] bs j line h e g = cc
 no_line_at terms (l ∷ lines) [] j line h e g = absurd h
 no_line_at terms (l ∷ lines) (c ∷ bs) zero line h e g = cc
@@ -51,13 +52,13 @@ module _ (terms : List Lambda) where
         (λ e. Contains-append_left alternative branch (record { positive = sign; atom = t }) (literal_is alternative sign k t (a.sound sign k e) n))
         (λ e. Contains-append_right alternative branch (record { positive = sign; atom = t }) (literal_is branch sign k t (o.sound sign k e) n))
 
-    pub within-numbers : (ls : List Literal) (b : Branch) → Represents terms ls b → Within ls (alternative ++ branch) → (sign : Bool) (k : ℕ) → IsTrue (branch_has b sign k) → IsTrue (branch_has known sign k || branch_has own sign k)
-    within-numbers ls b r w sign k e =
+    pub within-numbers : (ls : List Literal) (has : Bool → ℕ → Bool) → RepresentsBy terms ls has → Within ls (alternative ++ branch) → (sign : Bool) (k : ℕ) → IsTrue (has sign k) → IsTrue (branch_has known sign k || branch_has own sign k)
+    within-numbers ls has r w sign k e =
         let l = r.sound sign k e in
         in_either sign k l.atom l.numbered (contains-within (record { positive = sign; atom = l.atom }) ls (alternative ++ branch) l.among w)
 
-    pub numbers-within : (ls : List Literal) (b : Branch) → AreNumberedBranch terms ls → Represents terms ls b → ((sign : Bool) (k : ℕ) → IsTrue (branch_has b sign k) → IsTrue (branch_has known sign k || branch_has own sign k)) → Within ls (alternative ++ branch)
-    numbers-within ls b n r h = within-each ls (alternative ++ branch) (λ l c.
+    pub numbers-within : (ls : List Literal) (has : Bool → ℕ → Bool) → AreNumberedBranch terms ls → RepresentsBy terms ls has → ((sign : Bool) (k : ℕ) → IsTrue (has sign k) → IsTrue (branch_has known sign k || branch_has own sign k)) → Within ls (alternative ++ branch)
+    numbers-within ls has n r h = within-each ls (alternative ++ branch) (λ l c.
         let k = n l c in
         either_in l.positive k.0 l.atom k.1 (h l.positive k.0 (r.whole l.positive k.0 (record { atom = l.atom; numbered = k.1; among = c }))))
 

@@ -5,7 +5,7 @@ use Rattle.tableau_calculus.specs.Accepted.{IsTypedUse, IsTypedLine}
 use Rattle.tableau_calculus.specs.Checks.{FindsInstance}
 use Rattle.tableau_calculus.specs.declared.refutation.Line.{Line}
 use Rattle.refute_check.specs.declared.shared.Shared.{Shared}
-use Rattle.refute_check.specs.declared.branch.Branch.{Branch}
+use Rattle.refute_check.specs.declared.branch.LineBranch.{LineBranch}
 use Rattle.refute_check.specs.Internal.Branches.{AreBranches}
 use Rattle.refute_check.specs.Internal.Shared.{shared_scope, shared_atoms, the_rows, IsGoodShared, ExtendsShared}
 use Rattle.refute_check.proofs.BranchLaws.{branches-grow}
@@ -29,5 +29,5 @@ module _ (first second third : Shared) (good : IsGoodShared first) (e : ExtendsS
       (subst (λ s. FindsInstance s (the_rows third) line.branch line.rule o) (extends_scope first third (extends_on first second third e f)) h)
 
 -- the branches of earlier lines, and the numbers of a branch
-pub branches_extended : (first second : Shared) → IsGoodShared first → ExtendsShared first second → (lines : List Line) (bs : List Branch) → AreBranches (shared_atoms first) lines bs → AreBranches (shared_atoms second) lines bs
+pub branches_extended : (first second : Shared) → IsGoodShared first → ExtendsShared first second → (lines : List Line) (bs : List LineBranch) → AreBranches (shared_atoms first) lines bs → AreBranches (shared_atoms second) lines bs
 branches_extended first second good e lines bs h = branches-grow (shared_atoms first) (shared_atoms second) lines bs (extends_atoms first second e good) h

@@ -1,11 +1,12 @@
 -- Sets of numbers.
-use Rattle.std.proofs.Common.{◌≡◌, ℕ, nat_eq, Bool, true, false, ◌||◌, not, List, [], ◌∷◌, IsTrue, refl, sym, subst, ⊎_elim}
+use Rattle.std.proofs.Common.{◌≡◌, ℕ, nat_eq, Bool, true, false, ◌||◌, not, List, [], ◌∷◌, IsTrue, refl, sym, ap, subst, ⊎_elim}
 use Rattle.std.proofs.lemmas.Bool.{and_from, and_parts, or_cases, or_left, or_right, eqb-true, eq-eqb}
 use Rattle.std.specs.List.{list_all, list_any}
 use Rattle.indexmap.specs.IndexSet.{IndexSet, contains}
 use Rattle.tableau_calculus.proofs.ListLaws.{untrue}
-use Rattle.refute_check.specs.Internal.Branches.{branch_has}
+use Rattle.refute_check.specs.Internal.Branches.{branch_has, line_has}
 use Rattle.refute_check.specs.declared.branch.Branch.{Branch}
+use Rattle.refute_check.specs.declared.branch.LineBranch.{LineBranch}
 
 pub or_split : {P : Type 0} (a b : Bool) → (a || b) ≡ true → (a ≡ true → P) → (b ≡ true → P) → P
 or_split a b h f g = ⊎_elim f g (or_cases a b h)
@@ -31,13 +32,6 @@ found_all p (x ∷ xs) h =
     and_from (p x) (list_all p xs) (h x (or_left (nat_eq x x) (list_any (λ y. nat_eq x y) xs) (found_first x)))
     (found_all p xs (λ k e. h k (or_right (nat_eq k x) (list_any (λ y. nat_eq k y) xs) e)))
 
--- a test passes all keys of a set
-pub list_all-keys : {S : Type 0} (p : ℕ → Bool) (s : IndexSet ℕ S) → IsTrue (list_all p s.keys) → (k : ℕ) → IsTrue (contains nat_eq s k) → IsTrue (p k)
-list_all-keys p s h k g = all_found p s.keys k h g
-
-pub list_all-contains : {S : Type 0} (p : ℕ → Bool) (s : IndexSet ℕ S) → ((k : ℕ) → IsTrue (contains nat_eq s k) → IsTrue (p k)) → IsTrue (list_all p s.keys)
-list_all-contains p s h = found_all p s.keys h
-
 any_found : (p : ℕ → Bool) (xs : List ℕ) (k : ℕ) → list_any (λ x. nat_eq k x) xs ≡ true → p k ≡ true → list_any p xs ≡ true
 any_found p [] k h g = cc
 any_found p (x ∷ xs) k h g =
@@ -59,17 +53,22 @@ list_any-keys p s h = found_any p s.keys h
 pub list_any-contains : {S : Type 0} (p : ℕ → Bool) (s : IndexSet ℕ S) (k : ℕ) → IsTrue (contains nat_eq s k) → IsTrue (p k) → IsTrue (list_any p s.keys)
 list_any-contains p s k h g = any_found p s.keys k h g
 
--- the two sides of a branch
-module _ (b left right : Branch) where
-  pub within_sides : IsTrue (list_all (λ k. contains nat_eq left.positive k || contains nat_eq right.positive k) b.positive.keys) → IsTrue (list_all (λ k. contains nat_eq left.negative k || contains nat_eq right.negative k) b.negative.keys) → (sign : Bool) (k : ℕ) → IsTrue (branch_has b sign k) → IsTrue (branch_has left sign k || branch_has right sign k)
-  within_sides h g true k e = list_all-keys (λ k. contains nat_eq left.positive k || contains nat_eq right.positive k) b.positive h k e
-  within_sides h g false k e = list_all-keys (λ k. contains nat_eq left.negative k || contains nat_eq right.negative k) b.negative g k e
+-- a branch in lists
+pub listed_has : (l : LineBranch) (b : Branch) → l.positive.items ≡ b.positive.keys → l.negative.items ≡ b.negative.keys → (sign : Bool) (k : ℕ) → line_has l sign k ≡ branch_has b sign k
+listed_has l b p n true k = ap (list_any (nat_eq k)) p
+listed_has l b p n false k = ap (list_any (nat_eq k)) n
 
-  pub positive_within : ((sign : Bool) (k : ℕ) → IsTrue (branch_has b sign k) → IsTrue (branch_has left sign k || branch_has right sign k)) → IsTrue (list_all (λ k. contains nat_eq left.positive k || contains nat_eq right.positive k) b.positive.keys)
-  positive_within h = list_all-contains (λ k. contains nat_eq left.positive k || contains nat_eq right.positive k) b.positive (h true)
+-- the two sides of a line's branch
+module _ (b : LineBranch) (left right : Branch) where
+  pub within_sides : IsTrue (list_all (λ k. contains nat_eq left.positive k || contains nat_eq right.positive k) b.positive.items) → IsTrue (list_all (λ k. contains nat_eq left.negative k || contains nat_eq right.negative k) b.negative.items) → (sign : Bool) (k : ℕ) → IsTrue (line_has b sign k) → IsTrue (branch_has left sign k || branch_has right sign k)
+  within_sides h g true k e = all_found (λ k. contains nat_eq left.positive k || contains nat_eq right.positive k) b.positive.items k h e
+  within_sides h g false k e = all_found (λ k. contains nat_eq left.negative k || contains nat_eq right.negative k) b.negative.items k g e
 
-  pub negative_within : ((sign : Bool) (k : ℕ) → IsTrue (branch_has b sign k) → IsTrue (branch_has left sign k || branch_has right sign k)) → IsTrue (list_all (λ k. contains nat_eq left.negative k || contains nat_eq right.negative k) b.negative.keys)
-  negative_within h = list_all-contains (λ k. contains nat_eq left.negative k || contains nat_eq right.negative k) b.negative (h false)
+  pub positive_within : ((sign : Bool) (k : ℕ) → IsTrue (line_has b sign k) → IsTrue (branch_has left sign k || branch_has right sign k)) → IsTrue (list_all (λ k. contains nat_eq left.positive k || contains nat_eq right.positive k) b.positive.items)
+  positive_within h = found_all (λ k. contains nat_eq left.positive k || contains nat_eq right.positive k) b.positive.items (h true)
+
+  pub negative_within : ((sign : Bool) (k : ℕ) → IsTrue (line_has b sign k) → IsTrue (branch_has left sign k || branch_has right sign k)) → IsTrue (list_all (λ k. contains nat_eq left.negative k || contains nat_eq right.negative k) b.negative.items)
+  negative_within h = found_all (λ k. contains nat_eq left.negative k || contains nat_eq right.negative k) b.negative.items (h false)
 
 module _ (b other : Branch) where
   pub positive_clash : IsTrue (list_any (contains nat_eq other.negative) b.positive.keys) → (k : ℕ) × (sign : Bool) × IsTrue (branch_has b sign k) × IsTrue (branch_has other (not sign) k)

@@ -9,14 +9,14 @@ ghost use Rattle.search_spec.specs.Each.{Each};
 ghost use Rattle.refute_check.specs.Internal.Branches.{Represents, AreNumberedBranch, AreBranches};
 ghost use Rattle.refute_check.specs.Internal.Shared.{shared_atoms, literal_in, IsGoodShared, IsSharedNumber};
 
-use crate::branch::Branch;
+use crate::branch::{Branch, LineBranch};
 use crate::shared::Shared;
 use literal_map::LitLists;
 use std::alloc::{AllocError, Global};
 use tableau_calculus::{Child, Children};
 
 /// The branch of a line.
-pub(crate) fn branch_at(earlier: &[Branch], j: usize) -> Option<&Branch>
+pub(crate) fn branch_at(earlier: &[LineBranch], j: usize) -> Option<&LineBranch>
     ensures { option_copied result ≡ slice_get earlier.now j }
 {
     earlier.get(j)
@@ -25,7 +25,7 @@ pub(crate) fn branch_at(earlier: &[Branch], j: usize) -> Option<&Branch>
 /// Whether the child closes the branch with the alternative. An earlier line takes the time of its own literals, up to the first that
 /// isn't in the branch.
 fn closes_by(
-    earlier: &[Branch],
+    earlier: &[LineBranch],
     own: &Branch,
     known: &Branch,
     is_closed: bool,
@@ -65,7 +65,7 @@ fn is_closed_with(own_is_closed: bool, own: &Branch, known: &Branch) -> bool
 pub(crate) fn are_children(
     alloc: Global,
     shared: &Shared,
-    earlier: &[Branch],
+    earlier: &[LineBranch],
     own: &Branch,
     alternatives: &LitLists,
     children: &Children,

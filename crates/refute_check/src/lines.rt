@@ -12,7 +12,7 @@ ghost use Rattle.refute_check.specs.Internal.Branches.{Represents, AreNumberedBr
 ghost use Rattle.refute_check.specs.Internal.Seen.{IsSeen};
 ghost use Rattle.refute_check.specs.Internal.Shared.{shared_scope, shared_atoms, the_rows, IsGoodShared, ExtendsShared};
 
-use crate::branch::Branch;
+use crate::branch::{Branch, LineBranch};
 use crate::children::{are_children, branch_at};
 use crate::numbering::Numbering;
 use crate::seen::Seen;
@@ -25,7 +25,7 @@ use tableau_calculus::Why;
 /// The branches of the lines that are right.
 #[derive(Drop)]
 pub(crate) struct RightLines {
-    pub branches: Vec<Branch>,
+    pub branches: Vec<LineBranch>,
 }
 
 impl RightLines {
@@ -79,7 +79,8 @@ impl RightLines {
         )? {
             return Ok(Some(Why::Child));
         }
-        self.branches.push(own)?;
+        let listed = own.listed(alloc)?;
+        self.branches.push(listed)?;
         Ok(None)
     }
 

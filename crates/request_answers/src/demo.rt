@@ -105,12 +105,15 @@ fn checked(
     else {
         return Ok(answer);
     };
+    let done = Answer::DemoDone {
+        claim: *claim,
+        commands: *commands,
+    };
     let bytes = report(alloc, name, &answer)?;
+    // The refutation is let go before its text is read.
+    drop(answer);
     if is_accepted(alloc, problem, bytes.as_slice())? {
-        Ok(Answer::DemoDone {
-            claim: *claim,
-            commands: *commands,
-        })
+        Ok(done)
     } else {
         unreachable!()
     }

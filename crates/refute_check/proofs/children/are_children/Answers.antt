@@ -1,4 +1,4 @@
-use Rattle.std.proofs.Common.{refl, map, arith}
+use Rattle.std.proofs.Common.{◌≡◌, refl, map, take, take_all, subst₂, arith}
 use Rattle.std.proofs.lemmas.List.{length-map}
 use Rattle.stt_core.proofs.ListLaws.{mapped_get}
 use Rattle.tableau_calculus.specs.Accepted.{AreChildren}
@@ -41,3 +41,12 @@ loop-i-preserved c = λ lines branch are n r.
     let closed = c.is_closed_with-is_closed.ensures terms front branch n r c.in_ok-known.ensures.numbered c.in_ok-known.ensures.set (clashes_closed terms branch c.args.own.now c.clashes-own_is_closed.result n r c.clashes-own_is_closed.ensures) in
     children-more lines branch as' c.args.children.now c.loop-i.i front c.at-in-loop-i.result at c.at-in-loop-i.ensures (c.loop-i.invariant lines branch are n r)
     ((c.closes_by.ensures terms lines front branch are r c.in_ok-known.ensures.set closed).0 c.if-not-closes_by.false)
+
+pub returns : goal.returns
+returns c = λ lines branch are n r.
+    let as' = map (map (literal_in c.args.shared.now)) c.args.alternatives.now in
+    let i = c.loop-i.i in
+    let many = length-map c.args.alternatives.now (map (literal_in c.args.shared.now)) in
+    let sides : take i as' ≡ as' = take_all i as' (omega (arith, many, c.loop-i-test.false, c.len-i-end.ensures)) in
+    let closing : take i c.args.children.now ≡ c.args.children.now = take_all i c.args.children.now (omega (arith, c.loop-i-test.false, c.len-i-end.ensures, c.len.ensures, c.len-2.ensures, c.if-len.false)) in
+    (λ _. subst₂ (AreChildren lines branch) sides closing (c.loop-i.invariant lines branch are n r), λ _. refl)

@@ -2,10 +2,10 @@ use Rattle.std.proofs.Common.{◌++◌, [], ◌∷◌, None, Some, IfSome, sym, 
 use Rattle.tableau_calculus.proofs.ListLaws.{untrue}
 use Rattle.refute_print.specs.TextView.{the_line}
 use Rattle.refute_check.specs.Numbered.{numbered_line}
-use Rattle.refute_check.specs.Internal.Branches.{Represents, AreNumberedBranch, AreBranches}
+use Rattle.refute_check.specs.Internal.Branches.{branch_has, line_has, Represents, AreNumberedBranch, AreBranches}
 use Rattle.refute_check.specs.Internal.Shared.{shared_scope, shared_atoms, the_rows, ExtendsShared, NumbersBranch}
 use Rattle.refute_check.specs.Internal.Taking.{Takes, FindsUse, alternatives_in}
-use Rattle.refute_check.proofs.BranchLaws.{branches-append}
+use Rattle.refute_check.proofs.BranchLaws.{represents-same, branches-append}
 use Rattle.refute_check.proofs.SharedLaws.{extends_on, extends_numbers}
 use Rattle.refute_check.proofs.SeenLaws.{seen_stays}
 use Rattle.refute_check.proofs.LineAnswers.{no_use_typed, line_typed, finds_first, branches_extended}
@@ -175,7 +175,8 @@ returns-clause-added c = λ _ earlier are.
     let all = extends_on s0 s2 s3 (extends_on s0 s1 s2 e f) g in
     let grown = branches_extended s0 s3 c.requires.good all earlier c.args.self.now.branches.items are in
     subst (AreBranches (shared_atoms s3) (earlier ++ line ∷ [])) (sym c.in_ok-push.ensures.items)
-    (branches-append (shared_atoms s3) earlier c.args.self.now.branches.items line c.in_ok-own.own grown (subst (AreNumberedBranch (shared_atoms s3)) n3.literals c.in_ok-own.ensures.numbered) (subst (λ ls. Represents (shared_atoms s3) ls c.in_ok-own.own) n3.literals c.in_ok-own.ensures.set))
+    (branches-append (shared_atoms s3) earlier c.args.self.now.branches.items line c.in_ok-listed.listed grown (subst (AreNumberedBranch (shared_atoms s3)) n3.literals c.in_ok-own.ensures.numbered)
+    (represents-same (branch_has c.in_ok-own.own) (line_has c.in_ok-listed.listed) c.in_ok-listed.ensures (subst (λ ls. Represents (shared_atoms s3) ls c.in_ok-own.own) n3.literals c.in_ok-own.ensures.set)))
 
 pub returns-clause-seen : goal.returns-clause-seen
 returns-clause-seen c = λ _.
