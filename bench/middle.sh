@@ -11,26 +11,7 @@ folder=$(mktemp -d)
 trap 'rm -r "$folder"' EXIT
 echo "commands 300000" >"$folder/middle.mode"
 
-# Adds the seconds and the memory of one run of a command to a file: run FILE COMMAND ..
-run() {
-  local times=$1
-  shift
-  /usr/bin/time -q -a -o "$times" -f "%U %S %M" "$@" >/dev/null || true
-}
-
-# The least seconds, and the least memory in MB, of a file of runs.
-least() {
-  awk 'NR == 1 || $1 + $2 < s { s = $1 + $2 } NR == 1 || $3 < m { m = $3 } END { print s, m / 1024 }' "$1"
-}
-
+. "$here/by_turns.sh"
 for problem in "$here"/middle/*.p; do
-  rm -f "$folder/ours" "$folder/others"
-  for _ in $(seq "$runs"); do
-    run "$folder/ours" "$program" --mode "$folder/middle.mode" "$problem"
-    run "$folder/others" "$other" --mode "$folder/middle.mode" "$problem"
-  done
-  read -r s m < <(least "$folder/ours")
-  read -r t n < <(least "$folder/others")
-  awk -v name="$(basename "$problem" .p)" -v s="$s" -v m="$m" -v t="$t" -v n="$n" '
-    BEGIN { printf "%s: %.2f s, %.0f MB, the other %.2f s, %.0f MB; %.2f and %.2f times\n", name, s, m, t, n, s / t, m / n }'
+  compare "$(basename "$problem" .p)" --mode "$folder/middle.mode" "$problem"
 done
