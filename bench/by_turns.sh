@@ -1,6 +1,11 @@
-# Two programs with the same words by turns, for the scripts that take this file in: `compare NAME ARGUMENT ..` calls both so many times as
-# `runs` says, in `folder`, and prints a line: the seconds (user and system) and the memory of `program` and of `other`, the least of the
-# runs each, and their ratios.
+# What the scripts share that take this file in: two programs with the same words by turns, named by the script's arguments PROGRAM OTHER
+# [RUNS]. `compare NAME ARGUMENT ..` calls both RUNS times (five), and prints a line: the seconds (user and system) and the memory of both,
+# the least of the runs each, and their ratios. `folder` is for the script's files.
+program=${1:?a program}
+other=${2:?a program to measure against}
+runs=${3:-5}
+folder=$(mktemp -d)
+trap 'rm -r "$folder"' EXIT
 
 # Adds the seconds and the memory of one run of a command to a file: run FILE COMMAND ..
 run() {

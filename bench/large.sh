@@ -5,15 +5,10 @@
 # runs each by turns, and their ratios.
 set -eu
 here=$(dirname -- "$(readlink -f -- "$0")")
-program=${1:?a program}
-other=${2:?a program to measure against}
-runs=${3:-5}
-folder=$(mktemp -d)
-trap 'rm -r "$folder"' EXIT
+. "$here/by_turns.sh"
 echo "commands 0" >"$folder/none.mode"
 echo "commands 20000" >"$folder/many.mode"
 
-. "$here/by_turns.sh"
 for row in "equal none" "disjunctions none" "types many"; do
   read -r kind mode <<<"$row"
   python3 "$here/large.py" "$kind" >"$folder/$kind.p"

@@ -4,14 +4,9 @@
 # least of RUNS (five) runs each by turns, and their ratios.
 set -eu
 here=$(dirname -- "$(readlink -f -- "$0")")
-program=${1:?a program}
-other=${2:?a program to measure against}
-runs=${3:-5}
-folder=$(mktemp -d)
-trap 'rm -r "$folder"' EXIT
+. "$here/by_turns.sh"
 echo "commands 300000" >"$folder/middle.mode"
 
-. "$here/by_turns.sh"
 for problem in "$here"/middle/*.p; do
   compare "$(basename "$problem" .p)" --mode "$folder/middle.mode" "$problem"
 done
