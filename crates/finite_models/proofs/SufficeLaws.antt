@@ -5,7 +5,7 @@ use Rattle.std.specs.List.{AllByRecursion as Every}
 use Rattle.stt_core.specs.SimpleType.{SimpleType, arrow, predicate, same_type}
 use Rattle.stt_core.specs.Lambda.{Constant, name, witness, falsity, negation, implication, all, equality, choice, description, Lambda, bound, constant, lam, app}
 use Rattle.stt_core.specs.Typing.{Scope, type_of, constant_type}
-use Rattle.stt_core.specs.Meaning.{Model, IsModel, size, listed, least_table, constant_value, value}
+use Rattle.stt_core.specs.Meaning.{Model, IsModel, size, listed, least_table, constant_value, value, IsChoice, IsDescription}
 use Rattle.stt_core.specs.Meets.{MeetsFormulas, Refutes, MeetsProblem}
 use Rattle.stt_core.specs.Occurrence.{Occurs}
 use Rattle.stt_core.specs.OccurrenceLaw.{AgreeOn}
@@ -21,7 +21,7 @@ use Rattle.normal_forms.specs.Normal.{normal_form}
 use Rattle.normal_forms.proofs.NormalValues.{canonical-normal_form, value-normal_form}
 use Rattle.finite_models.specs.Sizes.{size_in}
 use Rattle.finite_models.specs.Symbols.{Symbol, declared_symbols, choosing_symbol, choosing_symbols_of, with_symbols, conjectures, normal_formulas, model_symbols}
-use Rattle.finite_models.specs.Candidates.{IsChoice, IsDescription, IsLawful, IsCandidate, as_choice, as_description, values_listed, model_of}
+use Rattle.finite_models.specs.Candidates.{IsLawful, IsCandidate, as_choice, as_description, values_listed, model_of}
 use Rattle.finite_models.specs.Small.{NoneMeets}
 use Rattle.finite_models.specs.Laws.{HasSize}
 use Rattle.stt_core.proofs.ChoiceLaws.{chooses, describes}

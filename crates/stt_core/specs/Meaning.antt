@@ -76,13 +76,29 @@ Fits m [] env = Unit {0}
 Fits m (a ∷ ctx) [] = ⊥
 Fits m (a ∷ ctx) (x ∷ env) = (x < size m a) × Fits m ctx env
 
--- A model for what is declared: no base type is empty, each constant and each witness has a value of its type, a choice that is listed
--- takes an entry 1 where there is one, and a description that is listed takes the one entry 1 where there is just one.
+-- The value e is a choice from n values: at each predicate that holds somewhere it gives a value at which the predicate holds. A
+-- predicate is the number whose digits in base 2 are its entries.
+abbrev pub IsChoice : ℕ → ℕ → Type 0
+IsChoice n e =
+    (p : ℕ) → p < 2 ^ n
+    → (x : ℕ) → x < n → entry 2 p x ≡ 1
+    → entry 2 p (entry n e p) ≡ 1
+
+-- The value d is a description of n values: at each predicate that holds at just one value it gives that value.
+abbrev pub IsDescription : ℕ → ℕ → Type 0
+IsDescription n d =
+    (p : ℕ) → p < 2 ^ n
+    → (x : ℕ) → x < n → entry 2 p x ≡ 1
+    → ((y : ℕ) → y < n → entry 2 p y ≡ 1 → y ≡ x)
+    → entry n d p ≡ x
+
+-- A model for what is declared: no base type is empty, each constant and each witness has a value of its type, and what is listed as the
+-- choice from a type, or as the description of its values, is one.
 pub record IsModel (scope : Scope) (m : Model) : Type 0 where
   pub sizes_pos : (n : ℕ) → 0 < m.sizes n
   pub names_in : (k : ℕ) (a : SimpleType) → slice_get scope.names k ≡ Some a → m.name_values k < size m a
   pub witnesses_in : (k : ℕ) (a : SimpleType) → slice_get scope.witnesses k ≡ Some a → m.witness_values k < size m a
   pub choices_in : (a : SimpleType) (e : ℕ) → listed m.choices a ≡ Some e → e < size m (arrow (predicate a) a)
-  pub choices_law : (a : SimpleType) (e : ℕ) → listed m.choices a ≡ Some e → (p : ℕ) → p < size m (predicate a) → (x : ℕ) → x < size m a → entry 2 p x ≡ 1 → entry 2 p (entry (size m a) e p) ≡ 1
+  pub choices_law : (a : SimpleType) (e : ℕ) → listed m.choices a ≡ Some e → IsChoice (size m a) e
   pub descriptions_in : (a : SimpleType) (d : ℕ) → listed m.descriptions a ≡ Some d → d < size m (arrow (predicate a) a)
-  pub descriptions_law : (a : SimpleType) (d : ℕ) → listed m.descriptions a ≡ Some d → (p : ℕ) → p < size m (predicate a) → (x : ℕ) → x < size m a → entry 2 p x ≡ 1 → ((y : ℕ) → y < size m a → entry 2 p y ≡ 1 → y ≡ x) → entry (size m a) d p ≡ x
+  pub descriptions_law : (a : SimpleType) (d : ℕ) → listed m.descriptions a ≡ Some d → IsDescription (size m a) d

@@ -2,7 +2,8 @@ use Rattle.std.proofs.Common.{◌↔◌, ap, sym, subst}
 use Rattle.std.specs.Prelude.{IsTrue}
 use Rattle.stt_core.specs.View.{the_type}
 use Rattle.finite_models.specs.Sizes.{IsSmallType}
-use Rattle.finite_models.specs.Candidates.{IsLawful, IsChoice, IsDescription}
+use Rattle.finite_models.specs.Candidates.{IsLawful}
+use Rattle.stt_core.specs.Meaning.{IsChoice, IsDescription}
 use Rattle.finite_models.specs.ChooserView.{the_chooser}
 use Rattle.finite_models.proofs.LookLaws.{few_chosen}
 use Rattle.finite_models.proofs.models.is_lawful.Goals as goal
