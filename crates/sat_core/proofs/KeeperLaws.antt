@@ -1,10 +1,9 @@
 -- Facts about values that are changed, and about the table of uses.
-use Rattle.std.proofs.Common.{◌≡◌, ◌≢◌, ◌⊎◌, inl, inr, ◌<◌, ◌≤◌, ◌+◌, ℕ, zero, suc, ◌||◌, not, Bool, true, false, List, [], ◌∷◌, ◌++◌, Option, Some, None, IsTrue, length, length-append, take, get_or, refl, sym, ap, ap₂, ◌∙◌, subst, arith}
+use Rattle.std.proofs.Common.{◌≡◌, ◌≢◌, inl, inr, ◌<◌, ◌≤◌, ℕ, zero, suc, ◌||◌, not, Bool, true, false, List, [], ◌∷◌, ◌++◌, Option, Some, None, IsTrue, length, length-append, get_or, refl, sym, ap, ap₂, ◌∙◌, subst, arith}
 use Rattle.std.specs.Prelude.{if◌then◌else◌, IfSome, IfNone, slice_set, slice_index_or}
-use Rattle.std.specs.List.{Contains, slice_get}
+use Rattle.std.specs.List.{slice_get}
 use Rattle.std.proofs.lemmas.Bool.{false≢true, cases_Bool, cases_order, or_left, or_right, false_from_ne_true}
-use Rattle.std.proofs.lemmas.List.{get_or-set_same, get_or-set_other, set-set, set-get_or, take_more}
-use Rattle.std.proofs.lemmas.List.Elements.{Contains-append_left, Contains-push, Contains-push_cases}
+use Rattle.std.proofs.lemmas.List.{get_or-set_same, get_or-set_other, set-set, set-get_or}
 use Rattle.std.proofs.lemmas.Option.{slice_get-get_or}
 use Rattle.sat_base.specs.declared.literal.Var.{Var}
 use Rattle.sat_base.specs.declared.literal.SatLit.{SatLit}
@@ -13,7 +12,11 @@ use Rattle.sat_base.specs.Truth.{AllTrue, assigned, literal_value, clause_value}
 use Rattle.sat_base.proofs.LiteralLaws.{same_var-refl}
 use Rattle.sat_base.proofs.TruthLaws.{clause_value-held}
 use Rattle.sat_laws.proofs.AnalysisLaws.{mentioned_by}
-use Rattle.sat_core.specs.Internal.Keeper.{uses_of, AreUsed, AreTrue, AreTrueBut, IsKeeper}
+use Rattle.sat_core.specs.Internal.Learner.{AreOver}
+use Rattle.sat_core.specs.Internal.Uses.{UseTable, no_ends, IsUse}
+use Rattle.sat_core.proofs.UsesLaws.{use_longer}
+use Rattle.sat_core.specs.Internal.Keeper.{AreUsed, AreTrue, AreTrueBut, IsKeeper}
+use Rattle.sat_core.proofs.AnalysisSteps.{over_more}
 
 -- Options.
 
@@ -24,11 +27,6 @@ if_none (Some x) P p = tt
 pub if_both : (r : Option ℕ) (P Q R : ℕ → Type 0) → ((x : ℕ) → P x → Q x → R x) → IfSome r P → IfSome r Q → IfSome r R
 if_both None P Q R f p q = tt
 if_both (Some x) P Q R f p q = f x p q
-
--- Elements of a list that is read.
-
-pub contains_more : (xs : List ℕ) (i d k : ℕ) → i < length xs → Contains (take (i + 1) xs) k → Contains (take i xs) k ⊎ (get_or xs i d ≡ k)
-contains_more xs i d k inside h = Contains-push_cases (take i xs) (get_or xs i d) k (subst (λ (some : List ℕ). Contains some k) (take_more xs i d inside) h)
 
 -- Values after one is changed.
 
@@ -54,9 +52,9 @@ unturned values v b (l ∷ clause) h =
     ap₂ (λ (x y : Bool). x || y) (ap (λ (x : Bool). if l.positive then x else not x) value) (unturned values v b clause rest)
 
 -- where a literal of a clause is made true, the first clauses are true other than those that hold its variable and are found false
-pub turned_true : (values : List Bool) (uses : List (List ℕ)) (clauses : List (List SatLit)) (l : SatLit) (n bound next : ℕ) → l.var.0 < length values → AreUsed uses bound clauses
+pub turned_true : (values : List Bool) (uses : UseTable) (clauses : List (List SatLit)) (l : SatLit) (n bound next : ℕ) → l.var.0 < length values → AreUsed uses bound clauses
     → ((clause : List SatLit) → slice_get clauses n ≡ Some clause → IsTrue (holds clause l)) → AreTrueBut values n bound clauses
-    → ((k : ℕ) (clause : List SatLit) → Contains (uses_of uses l.var) k → k < bound → k ≢ next → k ≢ n → slice_get clauses k ≡ Some clause → IsTrue (clause_value (assigned (slice_set values l.var.0 l.positive)) clause))
+    → ((k : ℕ) (clause : List SatLit) → IsUse uses l.var k → k < bound → k ≢ next → k ≢ n → slice_get clauses k ≡ Some clause → IsTrue (clause_value (assigned (slice_set values l.var.0 l.positive)) clause))
     → AreTrueBut (slice_set values l.var.0 l.positive) next bound clauses
 turned_true values uses clauses l n bound next inside used member but others k clause below apart at =
     elim (cases_order k n) [
@@ -69,35 +67,9 @@ turned_true values uses clauses l n bound next inside used member but others k c
         elim (cases_Bool (mentions_variable clause l.var)) [
           | inl there ↦
               let m = mentioned_by clause l.var there in
-              others k clause (subst (λ (w : Var). Contains (uses_of uses w) k) m.2 (used k clause below at m.0 m.1)) below apart apart_n at
+              others k clause (subst (λ (w : Var). IsUse uses w k) m.2 (used k clause below at m.0 m.1)) below apart apart_n at
           | inr absent ↦ unturned values l.var l.positive clause absent ∙ but k clause below apart_n at
         ]
-
--- The table of uses, with a number more.
-
-pub uses_kept : (uses more : List (List ℕ)) (var : Var) (n : ℕ) → ((w : Var) → uses_of more w ≡ (if same_var var w then uses_of uses w ++ n ∷ [] else uses_of uses w))
-    → (v : Var) (k : ℕ) → Contains (uses_of uses v) k → Contains (uses_of more v) k
-uses_kept uses more var n law v k h = go (same_var var v) (uses_of uses v) (uses_of more v) (law v) h
-  where
-    go : (b : Bool) (xs ys : List ℕ) → ys ≡ (if b then xs ++ n ∷ [] else xs) → Contains xs k → Contains ys k
-    go true xs ys e h = subst (λ (some : List ℕ). Contains some k) (sym e) (Contains-append_left xs (n ∷ []) k h)
-    go false xs ys e h = subst (λ (some : List ℕ). Contains some k) (sym e) h
-
-pub uses_there : (uses more : List (List ℕ)) (var : Var) (n : ℕ) → ((w : Var) → uses_of more w ≡ (if same_var var w then uses_of uses w ++ n ∷ [] else uses_of uses w))
-    → Contains (uses_of more var) n
-uses_there uses more var n law =
-    subst (λ (some : List ℕ). Contains some n)
-    (sym (law var ∙ ap (λ (b : Bool). if b then uses_of uses var ++ n ∷ [] else uses_of uses var) (same_var-refl var)))
-    (Contains-push (uses_of uses var) n)
-
-uses_longer : (uses : List (List ℕ)) (v : Var) (k : ℕ) → Contains (uses_of uses v) k → Contains (uses_of (uses ++ [] ∷ []) v) k
-uses_longer uses v k h = subst (λ (some : List ℕ). Contains some k) (sym (go uses v.0)) h
-  where
-    go : (xs : List (List ℕ)) (i : ℕ) → get_or (xs ++ [] ∷ []) i [] ≡ get_or xs i []
-    go [] zero = refl
-    go [] (suc i) = refl
-    go (x ∷ xs) zero = refl
-    go (x ∷ xs) (suc i) = go xs i
 
 -- The keeper.
 
@@ -118,23 +90,27 @@ clause_value-same f g [] same = refl
 clause_value-same f g (l ∷ clause) same = ap₂ (λ (x y : Bool). x || y) (ap (λ (x : Bool). if l.positive then x else not x) (same l.var)) (clause_value-same f g clause same)
 
 -- the table has room for one variable more
-pub keeper_ahead : (values same : List Bool) (uses more : List (List ℕ)) (listed kept : ℕ) (clauses : List (List SatLit)) → same ≡ values → more ≡ uses ++ [] ∷ []
-    → IsKeeper values uses listed kept clauses → IsKeeper same more listed kept clauses
-keeper_ahead values same uses more listed kept clauses e longer s = record {
+pub keeper_ahead : (values same : List Bool) (table more : UseTable) (listed kept : ℕ) (clauses : List (List SatLit)) → same ≡ values → more ≡ record table { ends = table.ends ++ no_ends ∷ [] }
+    → IsKeeper values table listed kept clauses → IsKeeper same more listed kept clauses
+keeper_ahead values same table more listed kept clauses e longer s = record {
   listed_within = s.listed_within;
   kept_within = s.kept_within;
-  used = λ k clause below at l h. subst (λ (table : List (List ℕ)). Contains (uses_of table l.var) k) (sym longer) (uses_longer uses l.var k (s.used k clause below at l h));
+  used = λ k clause below at l h. subst (λ (some : UseTable). IsUse some l.var k) (sym longer) (use_longer table l.var k (s.used k clause below at l h));
   kept_true = λ k clause below at. subst (λ (list : List Bool). IsTrue (clause_value (assigned list) clause)) (sym e) (s.kept_true k clause below at);
-  uses_made = omega (arith, s.uses_made, ap (λ (list : List Bool). length list) e, ap (λ (table : List (List ℕ)). length table) longer, length-append uses ([] ∷ []));
+  uses_made = omega (arith, s.uses_made, ap (λ (list : List Bool). length list) e, ap (λ (some : UseTable). length some.ends) longer, length-append table.ends (no_ends ∷ []));
 }
 
 -- one variable more, which is false
-pub keeper_longer : (values : List Bool) (uses : List (List ℕ)) (listed kept : ℕ) (clauses : List (List SatLit)) → IsKeeper values uses listed kept clauses
-    → IsKeeper (values ++ false ∷ []) (uses ++ [] ∷ []) listed kept clauses
-keeper_longer values uses listed kept clauses s = record {
+pub keeper_longer : (values : List Bool) (table : UseTable) (listed kept : ℕ) (clauses : List (List SatLit)) → IsKeeper values table listed kept clauses
+    → IsKeeper (values ++ false ∷ []) (record table { ends = table.ends ++ no_ends ∷ [] }) listed kept clauses
+keeper_longer values table listed kept clauses s = record {
   listed_within = s.listed_within;
   kept_within = s.kept_within;
-  used = λ k clause below at l h. uses_longer uses l.var k (s.used k clause below at l h);
+  used = λ k clause below at l h. use_longer table l.var k (s.used k clause below at l h);
   kept_true = λ k clause below at. clause_value-same (assigned (values ++ false ∷ [])) (assigned values) clause (assigned-push values) ∙ s.kept_true k clause below at;
-  uses_made = let enough = s.uses_made in omega (arith, length-append values (false ∷ []), length-append uses ([] ∷ []));
+  uses_made = let enough = s.uses_made in omega (arith, length-append values (false ∷ []), length-append table.ends (no_ends ∷ []));
 }
+
+-- more variables than the clauses speak of
+pub over_longer : (n m : ℕ) (clauses : List (List SatLit)) → n ≤ m → AreOver n clauses → AreOver m clauses
+over_longer n m clauses more over = λ k clause at. over_more n m clause more (over k clause at)

@@ -168,7 +168,7 @@ WereLearned-push clauses learned outcome before last = record {
 }
 
 -- a literal of a clause or a learned one occurs in the clauses
-premise_occurring : (clauses learned : List (List SatLit)) (premise : Premise) (clause : List SatLit) (l : SatLit) → AreLearned clauses learned → premise_clause clauses learned premise ≡ Some clause
+pub premise_occurring : (clauses learned : List (List SatLit)) (premise : Premise) (clause : List SatLit) (l : SatLit) → AreLearned clauses learned → premise_clause clauses learned premise ≡ Some clause
     → holds clause l ≡ true → Any (λ c. IsTrue (holds c l)) clauses
 premise_occurring clauses learned (Clause n) clause l known e h = any_from (λ (c : List SatLit). IsTrue (holds c l)) clauses clause (contains_at clauses n clause e) h
 premise_occurring clauses learned (Result n) clause l known e h = known.occurring clause l (contains_at learned n clause e) h

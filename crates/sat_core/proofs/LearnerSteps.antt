@@ -1,29 +1,29 @@
 -- What keeps a learner right, call by call.
-use Rattle.std.proofs.Common.{◌≡◌, ◌⊎◌, inl, inr, ◌+◌, ℕ, Bool, true, false, List, [], ◌∷◌, ◌++◌, Some, IsTrue, length, sym, ap, ◌∙◌, subst, arith, length-append}
+use Rattle.std.proofs.Common.{◌≡◌, inl, inr, ◌<◌, ◌+◌, ℕ, Bool, true, false, List, [], ◌∷◌, ◌++◌, Some, IsTrue, length, sym, ap, ◌∙◌, subst, arith, length-append}
 use Rattle.std.specs.List.{Contains, slice_get}
-use Rattle.std.proofs.lemmas.Bool.{false≢true, cases_order}
+use Rattle.std.proofs.lemmas.Bool.{false≢true}
 use Rattle.std.proofs.lemmas.List.{length-map}
 use Rattle.std.proofs.lemmas.List.Elements.{All-weaker, All-contains, All-contains_itself, Contains-push, Contains-append_left, Contains-append_right, Contains-append_cases}
-use Rattle.std.proofs.lemmas.Option.{same_Some, slice_get_within}
+use Rattle.std.proofs.lemmas.Option.{slice_get_within, slice_get-get_or}
 use Rattle.sat_base.specs.declared.literal.SatLit.{SatLit}
 use Rattle.sat_base.specs.Literal.{IsOver}
+use Rattle.sat_base.proofs.LiteralLaws.{All-held, All-from_held}
 use Rattle.sat_base.specs.Truth.{assigned, clause_value, AllTrue, Implies}
 use Rattle.sat_log.specs.declared.chain.Premise.{Premise}
 use Rattle.sat_log.specs.declared.chain.Premise.TheVariants.{Clause, Result}
 use Rattle.sat_log.specs.declared.log.LogEntry.{LogEntry}
 use Rattle.sat_log.specs.Chains.{premise_clause, results, IsLogOver}
 use Rattle.sat_log.specs.Propagation.{IsNew, Includes, ReachesFalse}
-use Rattle.sat_log.proofs.ChainLaws.{slice_get-before, slice_get-seam, slice_get-append, IsLogOver-append}
+use Rattle.sat_log.proofs.ChainLaws.{slice_get-append, IsLogOver-append}
 use Rattle.sat_log.proofs.Implied.{results_implied}
 use Rattle.sat_log.proofs.PropagationLaws.{ReachesFalse-included}
 use Rattle.sat_propagate.specs.Internal.Propagator.{IsPropagator, texts}
 use Rattle.sat_propagate.specs.declared.propagator.Propagator.{Propagator}
-use Rattle.sat_propagate.proofs.ListLaws.{get-past_seam}
 use Rattle.sat_core.specs.Solver.{learned_from, WereLearned}
-use Rattle.sat_core.specs.Internal.Learner.{IsNamedPropagator, AreInserted, AreLearned, IsLearnerOf, IsUnlearned}
+use Rattle.sat_core.specs.Internal.Learner.{IsNamedPropagator, AreInserted, AreLearned, AreOver, IsLearnerOf, IsUnlearned}
 use Rattle.sat_core.specs.declared.learner.Learner.{Learner}
 use Rattle.sat_core.proofs.NameLaws.{ready_same}
-use Rattle.sat_core.proofs.LearnerLaws.{AreInserted-within, AreInserted-next, AreInserted-append, AreLearned-append, WereLearned-append, WereLearned-push, learned_open, learned_pushed}
+use Rattle.sat_core.proofs.LearnerLaws.{AreInserted-within, AreInserted-next, AreInserted-append, AreLearned-append, WereLearned-append, WereLearned-push, premise_occurring, learned_open, learned_pushed}
 
 log_length : (log : List LogEntry) → length (results log) ≡ length log
 log_length log = length-map log (λ (entry : LogEntry). entry.result)
@@ -98,35 +98,18 @@ learner_refuted clauses before after was_refuted propagator names marks n m stil
     learned_is : learned_from true (results after) ≡ results before
     learned_is = ap (learned_from true) are ∙ learned_pushed (results before) []
 
--- a premise over the longer clauses is one over the shorter ones, or names the last clause
-added_cases : (clauses some : List (List SatLit)) (more : List SatLit) (premise : Premise) (clause : List SatLit) → premise_clause (clauses ++ more ∷ []) some premise ≡ Some clause
-    → (premise_clause clauses some premise ≡ Some clause) ⊎ (more ≡ clause)
-added_cases clauses some more (Result n) clause e = inl e
-added_cases clauses some more (Clause n) clause e =
-    elim (cases_order n (length clauses)) [
-      | inl end ↦ inr (same_Some _ _ (sym (slice_get-seam clauses more) ∙ ap (slice_get (clauses ++ more ∷ [])) (sym end) ∙ e))
-      | inr other ↦ elim other [
-        | inl before ↦ inl (sym (slice_get-before clauses (more ∷ []) n before) ∙ e)
-        | inr after ↦ absurd (get-past_seam clauses more n clause after e)
-      ]
-    ]
-
 premise_added : (clauses some : List (List SatLit)) (more : List SatLit) (premise : Premise) (clause : List SatLit) → premise_clause clauses some premise ≡ Some clause
     → premise_clause (clauses ++ more ∷ []) some premise ≡ Some clause
 premise_added clauses some more (Result n) clause e = e
 premise_added clauses some more (Clause n) clause e = slice_get-append clauses (more ∷ []) n clause e
 
-ready_added : (clauses some : List (List SatLit)) (more : List SatLit) (propagator : Propagator) (names : List Premise) (marks : List Bool) → IsOver (length propagator.trail.phases) more
+ready_added : (clauses some : List (List SatLit)) (more : List SatLit) (propagator : Propagator) (names : List Premise) (marks : List Bool)
     → IsNamedPropagator clauses some propagator names marks → IsNamedPropagator (clauses ++ more ∷ []) some propagator names marks
-ready_added clauses some more propagator names marks over ready = record {
+ready_added clauses some more propagator names marks ready = record {
   right = ready.right;
   named = λ n watched at. let known = ready.named n watched at in (known.0, known.1, premise_added clauses some more known.0 watched.clause known.2);
   names_made = ready.names_made;
   marks_made = ready.marks_made;
-  over = λ premise clause e. elim (added_cases clauses some more premise clause e) [
-    | inl before ↦ ready.over premise clause before
-    | inr last ↦ subst (IsOver (length propagator.trail.phases)) last over
-  ];
 }
 
 Includes-added : (clauses more learned : List (List SatLit)) → Includes (clauses ++ learned) ((clauses ++ more) ++ learned)
@@ -137,9 +120,9 @@ Includes-added clauses more learned = λ clause there. elim (Contains-append_cas
 
 -- a clause is added
 pub learner_added : (clauses : List (List SatLit)) (more : List SatLit) (log : List LogEntry) (is_refuted : Bool) (propagator : Propagator) (names : List Premise) (marks : List Bool) (n m : ℕ)
-    → IsOver (length propagator.trail.phases) more → IsLearnerOf clauses log is_refuted propagator names marks n m → IsLearnerOf (clauses ++ more ∷ []) log is_refuted propagator names marks n m
-learner_added clauses more log is_refuted propagator names marks n m over l = record {
-  ready = ready_added clauses (results log) more propagator names marks over l.ready;
+    → IsLearnerOf clauses log is_refuted propagator names marks n m → IsLearnerOf (clauses ++ more ∷ []) log is_refuted propagator names marks n m
+learner_added clauses more log is_refuted propagator names marks n m l = record {
+  ready = ready_added clauses (results log) more propagator names marks l.ready;
   logged = IsLogOver-append clauses (more ∷ []) log l.logged;
   clauses_made = omega (arith, l.clauses_made, length-append clauses (more ∷ []));
   results_made = l.results_made;
@@ -209,3 +192,17 @@ pub true_within : (values : List Bool) (clauses others : List (List SatLit)) →
 true_within values clauses others within all =
     All-weaker (Contains clauses) (λ clause. IsTrue (clause_value (assigned values) clause)) (λ clause there. All-contains (λ (c : List SatLit). IsTrue (clause_value (assigned values) c)) others clause all (within clause there))
     clauses (All-contains_itself clauses)
+
+-- the variables of some clauses, and of what was learned from them, are made
+pub premise_over : (n : ℕ) (clauses : List (List SatLit)) (log : List LogEntry) (is_refuted : Bool) (premise : Premise) (clause : List SatLit) → is_refuted ≡ false → AreOver n clauses
+    → AreLearned clauses (learned_from is_refuted (results log)) → premise_clause clauses (results log) premise ≡ Some clause → IsOver n clause
+premise_over n clauses log is_refuted premise clause still_open over learned is =
+    let known : AreLearned clauses (results log) = subst (AreLearned clauses) (learned_open is_refuted (results log) still_open) learned in
+    All-from_held (λ (l : SatLit). l.var.0 < n) clause (λ l h.
+    let found = premise_occurring clauses (results log) premise clause l known is h in
+    All-held (λ (m : SatLit). m.var.0 < n) found.1 l (over found.0 found.1 (slice_get-get_or clauses found.0 found.1 found.2 ∙ ap Some found.3)) found.4)
+
+-- the same clauses over as many variables
+pub over_same : (n m : ℕ) (clauses others : List (List SatLit)) → m ≡ n → others ≡ clauses → AreOver n clauses → AreOver m others
+over_same n m clauses others made same over = λ k clause at.
+    subst (λ (bound : ℕ). IsOver bound clause) (sym made) (over k clause (ap (λ (list : List (List SatLit)). slice_get list k) (sym same) ∙ at))

@@ -7,5 +7,7 @@ pub mod LearnerLaws
 pub mod LearnerSteps
 pub mod DecisionLaws
 pub mod SpentLaws
+pub mod UsesLaws
+pub mod UsePushed
 pub mod KeeperLaws
 pub mod SolverLaws

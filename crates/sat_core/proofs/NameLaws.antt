@@ -1,12 +1,11 @@
 -- What keeps a solver right.
-use Rattle.std.proofs.Common.{◌≡◌, ◌⊎◌, inl, inr, ◌<◌, ◌≤◌, ℕ, Bool, List, [], ◌∷◌, ◌++◌, Some, length, refl, sym, ap, ◌∙◌, subst, arith, length-append}
+use Rattle.std.proofs.Common.{◌≡◌, inl, inr, ◌<◌, ◌≤◌, ℕ, Bool, List, [], ◌∷◌, ◌++◌, Some, length, refl, sym, ap, ◌∙◌, subst, arith, length-append}
 use Rattle.std.specs.List.{slice_get}
 use Rattle.std.specs.Option.{option_map}
 use Rattle.std.proofs.lemmas.Bool.{cases_order}
 use Rattle.std.proofs.lemmas.List.{length-map, map-append}
 use Rattle.std.proofs.lemmas.Option.{slice_get-map, slice_get_cases, slice_get_within, same_Some}
 use Rattle.sat_base.specs.declared.literal.SatLit.{SatLit}
-use Rattle.sat_base.specs.Literal.{IsOver}
 use Rattle.sat_log.specs.declared.chain.Premise.{Premise}
 use Rattle.sat_log.specs.Chains.{premise_clause, chain_result, results, AppendsChain}
 use Rattle.sat_log.proofs.ChainLaws.{slice_get-append, slice_get-before, slice_get-seam}
@@ -14,7 +13,6 @@ use Rattle.sat_log.specs.declared.chain.Chain.{Chain}
 use Rattle.sat_log.specs.declared.log.LogEntry.{LogEntry}
 use Rattle.sat_log.specs.declared.chain.Premise.TheVariants.{Clause, Result}
 use Rattle.std.specs.Prelude.{IsSome, Option}
-use Rattle.sat_base.proofs.LiteralLaws.{All-held, All-from_held}
 use Rattle.sat_core.specs.Internal.Learned.{AreNamedPremises, Learns}
 use Rattle.sat_propagate.specs.Internal.Trail.{TrailState}
 use Rattle.sat_propagate.specs.Internal.WatchLists.{WatchTable}
@@ -22,7 +20,6 @@ use Rattle.sat_propagate.specs.Internal.Propagator.{IsPropagator, texts}
 use Rattle.sat_core.specs.Internal.Learner.{IsNamedPropagator}
 use Rattle.sat_propagate.specs.declared.propagator.Propagator.{Propagator}
 use Rattle.sat_propagate.specs.Internal.ClauseTable.{Watched}
-use Rattle.sat_core.proofs.AnalysisSteps.{over_more}
 use Rattle.sat_propagate.proofs.ListLaws.{get-past_seam}
 
 text_of : (clauses : List Watched) (n : ℕ) (watched : Watched) → slice_get clauses n ≡ Some watched → slice_get (texts clauses) n ≡ Some watched.clause
@@ -92,7 +89,6 @@ ready_pushed store results before after names more marks premise clause more_is 
         length-map after.clauses.items (λ (w : Watched). w.clause),
       );
       marks_made = omega (arith, ready.marks_made, made);
-      over = λ other text e. subst (λ (n : ℕ). IsOver n text) (sym made) (ready.over other text e);
     })
 
 -- the same clauses in the propagator
@@ -110,7 +106,6 @@ ready_same store results before after names marks right made same ready = record
     length-map after.clauses.items (λ (w : Watched). w.clause),
   );
   marks_made = omega (arith, ready.marks_made, made);
-  over = λ other text e. subst (λ (n : ℕ). IsOver n text) (sym made) (ready.over other text e);
 }
 
 -- a variable's mark more than there are variables, or not
@@ -121,18 +116,16 @@ ready_marks store results propagator names marks more longer ready = record {
   named = ready.named;
   names_made = ready.names_made;
   marks_made = omega (arith, ready.marks_made, longer);
-  over = ready.over;
 }
 
 pub ready_variable : (store results : List (List SatLit)) (before after : Propagator) (names : List Premise) (marks : List Bool)
-    → IsPropagator after.trail after.processed after.clauses.items after.lists → length after.trail.phases ≤ length marks → length before.trail.phases ≤ length after.trail.phases
+    → IsPropagator after.trail after.processed after.clauses.items after.lists → length after.trail.phases ≤ length marks
     → after.clauses.items ≡ before.clauses.items → IsNamedPropagator store results before names marks → IsNamedPropagator store results after names marks
-ready_variable store results before after names marks right marked more same ready = record {
+ready_variable store results before after names marks right marked same ready = record {
   right = right;
   named = named_same store results names before.clauses.items after.clauses.items (ap texts same) ready.named;
   names_made = ready.names_made ∙ sym (ap (λ (list : List Watched). length list) same);
   marks_made = marked;
-  over = λ other text e. over_more (length before.trail.phases) (length after.trail.phases) text more (ready.over other text e);
 }
 
 -- names stay right where there is one result more
@@ -140,51 +133,22 @@ premise_more : (store results : List (List SatLit)) (more : List SatLit) (premis
 premise_more store results more (Clause n) clause e = e
 premise_more store results more (Result n) clause e = slice_get-append results (more ∷ []) n clause e
 
--- a premise over the longer results is one over the shorter ones, or names the last result
-premise_cases : (store results : List (List SatLit)) (more : List SatLit) (premise : Premise) (clause : List SatLit) → premise_clause store (results ++ more ∷ []) premise ≡ Some clause
-    → (premise_clause store results premise ≡ Some clause) ⊎ (more ≡ clause)
-premise_cases store results more (Clause n) clause e = inl e
-premise_cases store results more (Result n) clause e =
-    elim (cases_order n (length results)) [
-      | inl end ↦ inr (same_Some _ _ (sym (slice_get-seam results more) ∙ ap (slice_get (results ++ more ∷ [])) (sym end) ∙ e))
-      | inr other ↦ elim other [
-        | inl before ↦ inl (sym (slice_get-before results (more ∷ []) n before) ∙ e)
-        | inr after ↦ absurd (get-past_seam results more n clause after e)
-      ]
-    ]
-
-pub ready_learned : (store results : List (List SatLit)) (propagator : Propagator) (names : List Premise) (marks : List Bool) (outcome : List SatLit) → IsOver (length propagator.trail.phases) outcome
+pub ready_learned : (store results : List (List SatLit)) (propagator : Propagator) (names : List Premise) (marks : List Bool) (outcome : List SatLit)
     → IsNamedPropagator store results propagator names marks → IsNamedPropagator store (results ++ outcome ∷ []) propagator names marks
-ready_learned store results propagator names marks outcome over ready = record {
+ready_learned store results propagator names marks outcome ready = record {
   right = ready.right;
   named = λ n watched at. let known = ready.named n watched at in (known.0, known.1, premise_more store results outcome known.0 watched.clause known.2);
   names_made = ready.names_made;
   marks_made = ready.marks_made;
-  over = λ premise clause e. elim (premise_cases store results outcome premise clause e) [
-    | inl before ↦ ready.over premise clause before
-    | inr last ↦ subst (IsOver (length propagator.trail.phases)) last over
-  ];
 }
-
--- the variables of what is learned are made
-pub learned_over : (store results : List (List SatLit)) (propagator : Propagator) (names : List Premise) (marks : List Bool) (chain : Chain) → IsNamedPropagator store results propagator names marks
-    → (learns : Learns propagator.clauses.items propagator.trail names chain) → IsOver (length propagator.trail.phases) learns.outcome
-learned_over store results propagator names marks chain ready learns =
-    All-from_held (λ (l : SatLit). l.var.0 < length propagator.trail.phases) learns.outcome (λ l h.
-    let occurs = learns.occurring l h in
-    All-held (λ (m : SatLit). m.var.0 < length propagator.trail.phases) occurs.watched.clause l (ready.right.over occurs.at occurs.watched occurs.there) occurs.member)
 
 -- a chain with its result is appended to the log
 pub ready_appended : (store : List (List SatLit)) (before after : List LogEntry) (propagator : Propagator) (names : List Premise) (marks : List Bool) (chain : Chain) → IsNamedPropagator store (results before) propagator names marks
-    → Learns propagator.clauses.items propagator.trail names chain → AppendsChain store before after chain → IsNamedPropagator store (results after) propagator names marks
-ready_appended store before after propagator names marks chain ready learns appends =
+    → AppendsChain store before after chain → IsNamedPropagator store (results after) propagator names marks
+ready_appended store before after propagator names marks chain ready appends =
     subst (λ (list : List (List SatLit)). IsNamedPropagator store list propagator names marks) (sym results_are)
-    (ready_learned store (results before) propagator names marks appends.outcome
-    (subst (IsOver (length propagator.trail.phases)) same (learned_over store (results before) propagator names marks chain ready learns)) ready)
+    (ready_learned store (results before) propagator names marks appends.outcome ready)
   where
-    same : learns.outcome ≡ appends.outcome
-    same = same_Some _ _ (sym (learns.derived store (results before) ready.named) ∙ appends.derived)
-
     results_are : results after ≡ results before ++ appends.outcome ∷ []
     results_are = ap results appends.appended ∙ map-append (λ (entry : LogEntry). entry.result) before (record { chain = chain; result = appends.outcome } ∷ [])
 
@@ -209,15 +173,10 @@ ready_empty propagator right empty none = record {
   named = λ n watched at. absurd (nowhere n watched (ap (λ (list : List Watched). slice_get list n) (sym empty) ∙ at));
   names_made = ap (λ (list : List Watched). length list) (sym empty);
   marks_made = omega (arith, none);
-  over = λ premise clause e. absurd (no_premise premise clause e);
 }
   where
     nowhere : (n : ℕ) (watched : Watched) → slice_get [] n ≡ Some watched → ⊥
     nowhere n watched at = cc
-
-    no_premise : (premise : Premise) (clause : List SatLit) → premise_clause [] [] premise ≡ Some clause → ⊥
-    no_premise (Clause n) clause e = cc
-    no_premise (Result n) clause e = cc
 
 pub result_there : (log : List LogEntry) (n : ℕ) → n < length log → IsSome (slice_get (results log) n)
 result_there log n inside =

@@ -1,18 +1,17 @@
 -- The steps of `shorten`.
-use Rattle.std.proofs.Common.{◌≡◌, ◌≢◌, inl, inr, ◌<◌, ℕ, ◌&&◌, ◌||◌, not, Bool, true, false, List, [], ◌∷◌, ◌++◌, Some, length, take, refl, sym, ap, ◌∙◌, arith}
+use Rattle.std.proofs.Common.{◌≡◌, ◌≢◌, inl, inr, ◌<◌, ℕ, ◌&&◌, ◌||◌, not, Bool, true, false, List, [], ◌∷◌, ◌++◌, Some, length, take, sym, ap, ◌∙◌, arith}
 use Rattle.std.specs.List.{slice_get}
 use Rattle.std.specs.Option.{option_and_then}
-use Rattle.std.proofs.lemmas.Bool.{false≢true, cases_Bool, and_parts, and_from, false_from_ne_true, not-true, not_from_false}
+use Rattle.std.proofs.lemmas.Bool.{false≢true, cases_Bool, false_from_ne_true}
 use Rattle.std.proofs.lemmas.List.{take_all}
 use Rattle.std.proofs.lemmas.Option.{same_Some}
 use Rattle.sat_base.specs.declared.literal.Var.{Var}
 use Rattle.sat_base.specs.declared.literal.SatLit.{SatLit}
 use Rattle.sat_base.specs.Literal.{negated, same_var, same_literal, holds, mentions_variable}
-use Rattle.sat_base.proofs.LiteralLaws.{same_literal-refl, same_literal-true, same_var-true, negated-negated, mentions-held}
+use Rattle.sat_base.proofs.LiteralLaws.{same_literal-refl, same_literal-true, negated-negated}
 use Rattle.sat_log.specs.declared.chain.Premise.{Premise}
 use Rattle.sat_log.specs.declared.chain.Chain.{Chain}
 use Rattle.sat_log.specs.Resolution.{without_literal, resolved}
-use Rattle.sat_log.proofs.ResolutionLaws.{holds-without}
 use Rattle.sat_log.proofs.VariableLaws.{mentioned_as}
 use Rattle.sat_log.specs.Chains.{premise_clause}
 use Rattle.sat_log.specs.Propagation.{IsUnitClause, IsConsistent}
@@ -20,12 +19,12 @@ use Rattle.sat_laws.specs.Internal.Complete.{IsComplete}
 use Rattle.sat_laws.proofs.CompleteLaws.{consistent_once}
 use Rattle.sat_laws.proofs.TrailLaws.{held_at}
 use Rattle.sat_laws.proofs.WatchLaws.{held-take}
-use Rattle.sat_laws.proofs.AnalysisLaws.{IsOutcome, step_resolves, outcome_mentions, mentioned_by, place_below, held_below, learned_new}
+use Rattle.sat_laws.proofs.AnalysisLaws.{IsOutcome, step_resolves, outcome_mentions, place_below, held_below, learned_new}
 use Rattle.sat_propagate.specs.Internal.Trail.{TrailState, literals, IsTrail}
 use Rattle.sat_propagate.specs.Internal.Propagator.{texts}
 use Rattle.sat_propagate.specs.declared.trail.Step.{Step}
 use Rattle.sat_propagate.specs.Internal.ClauseTable.{Watched}
-use Rattle.sat_propagate.proofs.PlaceLaws.{literal_at, once_place}
+use Rattle.sat_propagate.proofs.PlaceLaws.{literal_at}
 use Rattle.sat_core.specs.Internal.Marks.{is_marked, others}
 use Rattle.sat_core.specs.Internal.Learned.{IsLearned, IsShortening, Learns}
 use Rattle.sat_core.proofs.AnalysisSteps.{chain_result-push, reason_undenied, once_resolved}

@@ -1,5 +1,5 @@
 -- What callers see of a learner.
-use Rattle.std.proofs.Common.{◌≡◌, Bool, true, false, List, [], ◌∷◌, ◌++◌, length, refl, sym, ap, ◌∙◌, subst, arith, append-nil}
+use Rattle.std.proofs.Common.{◌≡◌, Bool, true, false, List, [], ◌∷◌, ◌++◌, length, take, refl, sym, ap, ◌∙◌, subst, arith, append-nil}
 use Rattle.std.specs.List.{All, Contains}
 use Rattle.std.proofs.lemmas.List.{length-map}
 use Rattle.std.proofs.lemmas.List.Elements.{All-contains, Contains-push}
@@ -72,3 +72,18 @@ grows_shown before after values values_after made grew = record {
   appended = grew.appended;
   new = grew.new;
 }
+
+-- variables were made before
+pub grows_made : (before made after : Learner) (values values_after : List Bool) → made.clauses ≡ before.clauses → made.log ≡ before.log → made.is_refuted ≡ before.is_refuted → length values_after ≡ length values
+    → SolverGrows (seen made) (seen after) → SolverGrows (state_with values before) (state_with values_after after)
+grows_made before made after values values_after clauses log refuted count grew = record {
+  clauses_same = grew.clauses_same ∙ clauses;
+  made_same = count;
+  more = grew.more;
+  appended = grew.appended ∙ ap (λ (list : List LogEntry). list ++ grew.more) log;
+  new = λ k clause from at. subst (λ (some : List (List SatLit)). IsNew (some ++ take k (learned (seen after))) clause) clauses
+      (grew.new k clause (omega (arith, from, ap (λ (some : List (List SatLit)). length some) known)) at);
+}
+  where
+    known : learned (seen made) ≡ learned (seen before)
+    known = ap (λ (b : Bool). learned_from b (results made.log)) refuted ∙ ap (λ (list : List LogEntry). learned_from before.is_refuted (results list)) log

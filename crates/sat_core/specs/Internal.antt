@@ -2,4 +2,5 @@
 pub mod Learner
 pub mod Learned
 pub mod Marks
+pub mod Uses
 pub mod Keeper

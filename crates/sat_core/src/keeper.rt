@@ -1,11 +1,12 @@
 //! Values that make clauses true, and how few of them are changed when a clause is added.
 ghost use Rattle.std.specs.Prelude.{◌≡◌, ◌≢◌, ◌<◌, ◌≤◌, ◌+◌, [], ℕ, List, Bool, IsTrue, true, false, Some, length, slice_get, IfOk, OnOk, IfSome, IfNone};
-ghost use Rattle.std.specs.List.{Contains};
 ghost use Rattle.sat_base.specs.declared.literal.Var.{Var};
 ghost use Rattle.sat_base.specs.declared.literal.SatLit.{SatLit};
 ghost use Rattle.sat_base.specs.Literal.{holds, IsOver};
 ghost use Rattle.sat_base.specs.Truth.{AllTrue, assigned, clause_value};
-ghost use Rattle.sat_core.specs.Internal.Keeper.{uses_of, IsUsedIn, AreUsed, AreOver, AreTrue, AreTrueBut, IsKeeper};
+ghost use Rattle.sat_core.specs.Internal.Learner.{AreOver};
+ghost use Rattle.sat_core.specs.Internal.Uses.{IsUse};
+ghost use Rattle.sat_core.specs.Internal.Keeper.{IsUsedIn, AreUsed, AreTrue, AreTrueBut, IsKeeper};
 
 use crate::uses::Uses;
 use sat_base::{ClauseStore, SatLit, Var};
@@ -103,9 +104,9 @@ fn phases(alloc: Global, trail: &Trail) -> Result<Vec<bool>, AllocError>
 
 /// Enters a clause's number for each of its variables.
 fn list(uses: &mut Uses, among: &[SatLit], n: usize) -> Result<(), AllocError>
-    requires over { IsOver (length uses.old) among.now }
-    ensures made { length uses.new ≡ length uses.old }
-    ensures before { (v : Var) (k : ℕ) → Contains (uses_of uses.old v) k → Contains (uses_of uses.new v) k }
+    requires over { IsOver (length uses.old.ends) among.now }
+    ensures made { length uses.new.ends ≡ length uses.old.ends }
+    ensures before { (v : Var) (k : ℕ) → IsUse uses.old v k → IsUse uses.new v k }
     ensures listed { OnOk result (IsUsedIn uses.new n among.now) }
 {
     for literal in among {
@@ -126,7 +127,7 @@ fn kept_after(
     requires next { bound ≡ kept + 1 }
     requires within { bound ≤ length clauses.now }
     requires used { AreUsed uses.now bound clauses.now }
-    requires made { length values.old ≤ length uses.now }
+    requires made { length values.old ≤ length uses.now.ends }
     requires kept { AreTrue values.old kept clauses.now }
     ensures made { length values.new ≡ length values.old }
     ensures within { result ≤ bound }
@@ -159,7 +160,7 @@ fn change(
     requires inside { n < bound }
     requires within { bound ≤ length clauses.now }
     requires used { AreUsed uses.now bound clauses.now }
-    requires made { length values.old ≤ length uses.now }
+    requires made { length values.old ≤ length uses.now.ends }
     requires but { AreTrueBut values.old n bound clauses.now }
     ensures made { length values.new ≡ length values.old }
     ensures some { IfSome result (λ next. (next < bound) × AreTrueBut values.new next bound clauses.now) }
@@ -185,7 +186,7 @@ fn turn_first(
     requires inside { n < bound }
     requires within { bound ≤ length clauses.now }
     requires used { AreUsed uses.now bound clauses.now }
-    requires made { length values.old ≤ length uses.now }
+    requires made { length values.old ≤ length uses.now.ends }
     requires but { AreTrueBut values.old n bound clauses.now }
     ensures made { length values.new ≡ length values.old }
     ensures some { IfSome result (λ next. (next < bound) × AreTrueBut values.new next bound clauses.now) }
@@ -215,7 +216,7 @@ fn turn(
     requires inside { n < bound }
     requires within { bound ≤ length clauses.now }
     requires used { AreUsed uses.now bound clauses.now }
-    requires made { length values.old ≤ length uses.now }
+    requires made { length values.old ≤ length uses.now.ends }
     requires valued { literal.var.0 < length values.old }
     requires member { (clause : List SatLit) → slice_get clauses.now n ≡ Some clause → IsTrue (holds clause literal) }
     requires but { AreTrueBut values.old n bound clauses.now }
@@ -225,18 +226,19 @@ fn turn(
 {
     let before = values[literal.var.0];
     values[literal.var.0] = literal.positive;
-    let next = only_false(values, uses.of(literal.var), clauses, n, bound, may_break);
+    let next = only_false(values, uses, literal.var, clauses, n, bound, may_break);
     if next.is_none() {
         values[literal.var.0] = before;
     }
     next
 }
 
-/// Which of the first clauses with these numbers is false, beside number `n`: this one where none is. None where several
-/// are, or one that may not be.
+/// Which of the first clauses in which a variable occurs is false, beside number `n`: this one where none is. None where
+/// several are, or one that may not be.
 fn only_false(
     values: &[bool],
-    numbers: &[usize],
+    uses: &Uses,
+    var: Var,
     clauses: &ClauseStore,
     n: usize,
     bound: usize,
@@ -245,17 +247,21 @@ fn only_false(
     requires over { AreOver (length values.now) clauses.now }
     requires inside { n < bound }
     requires within { bound ≤ length clauses.now }
+    requires made { var.0 < length uses.now.ends }
     ensures inside { IfSome result (λ next. next < bound) }
-    ensures others { IfSome result (λ next. (k : ℕ) (clause : List SatLit) → Contains numbers.now k → k < bound → k ≢ next → k ≢ n → slice_get clauses.now k ≡ Some clause → IsTrue (clause_value (assigned values.now) clause)) }
+    ensures others { IfSome result (λ next. (k : ℕ) (clause : List SatLit) → IsUse uses.now var k → k < bound → k ≢ next → k ≢ n → slice_get clauses.now k ≡ Some clause → IsTrue (clause_value (assigned values.now) clause)) }
 {
     let mut found = n;
-    for k in numbers {
-        if *k != found && is_false_below(values, clauses, *k, bound) {
+    let mut place = uses.first(var);
+    while let Some(entry) = uses.at(place) {
+        let k = entry.clause as usize;
+        if k != found && is_false_below(values, clauses, k, bound) {
             if !may_break || found != n {
                 return None;
             }
-            found = *k;
+            found = k;
         }
+        place = entry.next;
     }
     Some(found)
 }

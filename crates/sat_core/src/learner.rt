@@ -1,13 +1,12 @@
 //! Clauses, what was learned from them, and how.
 ghost use Rattle.std.specs.Prelude.{◌≡◌, [], ◌∷◌, ◌++◌, ℕ, true, false, ◌<◌, ◌≤◌, ◌+◌, List, Some, None, IsSome, IfOk, OnOk, OnErr, length, map};
 ghost use Rattle.sat_base.specs.declared.literal.SatLit.{SatLit};
-ghost use Rattle.sat_base.specs.Literal.{IsOver};
 ghost use Rattle.sat_log.specs.Propagation.{IsFalseIn, Includes};
 ghost use Rattle.sat_log.specs.declared.chain.Premise.{Premise};
 ghost use Rattle.sat_propagate.specs.Internal.Trail.{literals};
 ghost use Rattle.sat_propagate.specs.Internal.Propagator.{texts, IsConflict};
 ghost use Rattle.sat_core.specs.Internal.Learned.{Learns};
-ghost use Rattle.sat_core.specs.Internal.Learner.{IsNamedPropagator, IsLearner, IsUnlearned, GrewLearner, AnswersSolve, seen};
+ghost use Rattle.sat_core.specs.Internal.Learner.{IsNamedPropagator, IsLearner, IsUnlearned, AreOver, GrewLearner, AnswersSolve, seen};
 ghost use Rattle.sat_core.specs.Solver.{learned_from};
 ghost use Rattle.sat_log.specs.Chains.{premise_clause, results, IsLogOver, AppendsChain};
 
@@ -16,7 +15,7 @@ use crate::marks::Marks;
 use crate::restarts::Restarts;
 use crate::shorten::learned_chain;
 use crate::spares::Spares;
-use sat_base::{Clause, ClauseStore, Var};
+use sat_base::{Clause, ClauseStore};
 use sat_log::{Chain, Log, Premise};
 use sat_propagate::{Ended, Propagator};
 use std::alloc::{AllocError, Global};
@@ -34,7 +33,7 @@ pub enum Answer {
 
 /// Clauses and the log of what was learned from them, with a propagator into which they are inserted when the next
 /// answer is looked for: so many of the clauses and of the log's results are in it, and each of its clauses has the
-/// name of the one that it is.
+/// name of the one that it is. Their variables are made in it before that.
 #[derive(Drop)]
 pub struct Learner {
     alloc: Global,
@@ -73,27 +72,41 @@ impl Learner {
         }
     }
 
-    /// One variable more.
-    pub fn new_var(&mut self) -> Result<Var, AllocError>
+    /// Makes variables of the propagator until there are so many.
+    pub fn make_variables(&mut self, count: usize) -> Result<(), AllocError>
+        requires learner { IsLearner self.old }
+        requires fits { length self.old.propagator.trail.phases ≤ count }
+        ensures learner { IsLearner self.new }
+        ensures within { length self.new.propagator.trail.phases ≤ count }
+        ensures ok { OnOk result (length self.new.propagator.trail.phases ≡ count) }
+        ensures clauses { self.new.clauses ≡ self.old.clauses }
+        ensures log { self.new.log ≡ self.old.log }
+        ensures refuted { self.new.is_refuted ≡ self.old.is_refuted }
+    {
+        while self.propagator.trail.variables() < count {
+            self.make_variable()?;
+        }
+        Ok(())
+    }
+
+    /// One variable of the propagator more.
+    fn make_variable(&mut self) -> Result<(), AllocError>
         requires learner { IsLearner self.old }
         ensures learner { IsLearner self.new }
-        ensures number { IfOk result (λ v. v.0 ≡ length self.old.propagator.trail.phases) }
         ensures ok { OnOk result (self.new.propagator.trail.phases ≡ self.old.propagator.trail.phases ++ false ∷ []) }
         ensures err { OnErr result (self.new.propagator.trail.phases ≡ self.old.propagator.trail.phases) }
         ensures clauses { self.new.clauses ≡ self.old.clauses }
         ensures log { self.new.log ≡ self.old.log }
         ensures refuted { self.new.is_refuted ≡ self.old.is_refuted }
     {
-        let var = Var(self.propagator.trail.variables());
         self.marks.add_variable()?;
         self.propagator.add_variable()?;
-        Ok(var)
+        Ok(())
     }
 
     /// Adds a clause. It is inserted when the next answer is looked for.
     pub fn add(&mut self, clause: &Clause) -> Result<(), AllocError>
         requires learner { IsLearner self.old }
-        requires made { IsOver (length self.old.propagator.trail.phases) clause.now }
         ensures learner { IsLearner self.new }
         ensures ok { OnOk result (self.new.clauses ≡ self.old.clauses ++ clause.now ∷ []) }
         ensures err { OnErr result (self.new.clauses ≡ self.old.clauses) }
@@ -122,6 +135,7 @@ impl Learner {
     /// them. Variables are decided as the given values have them first.
     pub fn solve(&mut self, budget: u64, values: &[bool]) -> Result<Answer, AllocError>
         requires learner { IsLearner self.old }
+        requires over { AreOver (length self.old.propagator.trail.phases) self.old.clauses }
         requires open { self.old.is_refuted ≡ false }
         requires budget { length self.old.log ≤ budget }
         ensures learner { IsLearner self.new }
@@ -144,6 +158,7 @@ impl Learner {
     /// Searches up to the next conflict, and learns from it: no answer yet.
     fn step(&mut self, budget: u64) -> Result<Option<Answer>, AllocError>
         requires learner { IsLearner self.old }
+        requires over { AreOver (length self.old.propagator.trail.phases) self.old.clauses }
         requires open { self.old.is_refuted ≡ false }
         requires budget { length self.old.log ≤ budget }
         ensures learner { IsLearner self.new }
@@ -170,6 +185,7 @@ impl Learner {
     /// spent nothing is learned.
     fn learn_from(&mut self, conflict: usize, budget: u64) -> Result<Option<Answer>, AllocError>
         requires learner { IsLearner self.old }
+        requires over { AreOver (length self.old.propagator.trail.phases) self.old.clauses }
         requires open { self.old.is_refuted ≡ false }
         requires budget { length self.old.log ≤ budget }
         requires included { Includes (self.old.clauses ++ results self.old.log) (texts self.old.propagator.clauses.items) }
@@ -199,6 +215,8 @@ impl Learner {
     /// Inserts the clauses and results that are not yet inserted. One that is false without a decision, if there is one.
     fn insert_all(&mut self) -> Result<Option<Premise>, AllocError>
         requires learner { IsLearner self.old }
+        requires over { AreOver (length self.old.propagator.trail.phases) self.old.clauses }
+        requires open { self.old.is_refuted ≡ false }
         ensures learner { IsLearner self.new }
         ensures same { IsUnlearned self.old self.new }
         ensures included { IfOk result (λ r. r ≡ None → Includes (self.new.clauses ++ results self.new.log) (texts self.new.propagator.clauses.items)) }
@@ -226,6 +244,8 @@ impl Learner {
     /// Inserts a clause or a result. Not inserted, and false is answered, where it is false without a decision.
     fn insert(&mut self, premise: Premise) -> Result<bool, AllocError>
         requires learner { IsLearner self.old }
+        requires over { AreOver (length self.old.propagator.trail.phases) self.old.clauses }
+        requires open { self.old.is_refuted ≡ false }
         requires there { IsSome (premise_clause self.old.clauses (results self.old.log) premise) }
         ensures learner { IsLearner self.new }
         ensures same { IsUnlearned self.old self.new }
@@ -286,6 +306,7 @@ impl Learner {
     /// Derives the empty clause from a clause that is false without a decision.
     fn refute(&mut self, premise: Premise) -> Result<(), AllocError>
         requires learner { IsLearner self.old }
+        requires over { AreOver (length self.old.propagator.trail.phases) self.old.clauses }
         requires open { self.old.is_refuted ≡ false }
         requires there { IsSome (premise_clause self.old.clauses (results self.old.log) premise) }
         requires falsified { (clause : List SatLit) → premise_clause self.old.clauses (results self.old.log) premise ≡ Some clause → IsFalseIn (literals self.old.propagator.trail.steps) clause }

@@ -61,10 +61,9 @@ impl Solver {
         ensures ok { OnOk result (self.new ≡ record self.old { values = self.old.values ++ false ∷ [] }) }
         ensures err { OnErr result (self.new ≡ self.old) }
     {
+        let var = Var(self.keeper.values.len());
         self.keeper.uses.add_variable()?;
-        self.keeper.values.reserve(1)?;
-        let var = self.learner.new_var()?;
-        self.keeper.values.push_reserved(false);
+        self.keeper.values.push(false)?;
         Ok(var)
     }
 
@@ -103,6 +102,7 @@ impl Solver {
         if self.keeper.satisfy(&self.learner.clauses)? {
             return Ok(Answer::Sat);
         }
+        self.learner.make_variables(self.keeper.values.len())?;
         let values = self.keeper.values.as_slice();
         let answer = self.learner.solve(budget, values)?;
         if answer != Answer::Sat {

@@ -1,9 +1,9 @@
 -- Facts about lists of literals.
-use Rattle.std.proofs.Common.{◌≡◌, ◌≢◌, ◌⊎◌, inl, inr, ◌<◌, ◌+◌, ◌-◌, ℕ, zero, suc, ◌||◌, true, false, List, [], ◌∷◌, ◌++◌, Some, map, length, take, get_or, set, refl, sym, ap, ◌∙◌, arith, length-set, length-append}
+use Rattle.std.proofs.Common.{◌≡◌, ◌≢◌, ◌⊎◌, inl, inr, ◌<◌, ◌+◌, ◌-◌, ℕ, zero, suc, ◌||◌, true, false, List, [], ◌∷◌, ◌++◌, Some, map, length, take, drop, get_or, set, refl, sym, ap, ◌∙◌, arith, length-set, length-append, length-drop}
 use Rattle.std.specs.List.{slice_get, swap_remove}
 use Rattle.std.proofs.lemmas.Option.{slice_get_within, get_or_from_slice_get}
-use Rattle.std.proofs.lemmas.Bool.{false≢true, or_cases, false_from_ne_true, cases_order}
-use Rattle.std.proofs.lemmas.List.{take_more, length-take-le}
+use Rattle.std.proofs.lemmas.Bool.{false≢true, or_cases, or_left, or_right, false_from_ne_true, cases_order}
+use Rattle.std.proofs.lemmas.List.{take_more, take_all, length-take-le, take-append-drop}
 use Rattle.sat_base.specs.declared.literal.SatLit.{SatLit}
 use Rattle.sat_base.specs.Literal.{negated, same_literal, holds, mentions_variable}
 use Rattle.sat_base.proofs.LiteralLaws.{holds-append, same_literal-true}
@@ -20,6 +20,23 @@ held_more xs i d l h t =
         | inr never ↦ absurd (false≢true never)
       ]
     ]
+
+-- what is among the first literals or among those after them is among all, and nothing else is
+split : (n : ℕ) (xs : List SatLit) (l : SatLit) → holds xs l ≡ (holds (take n xs) l || holds (drop n xs) l)
+split n xs l = ap (λ (some : List SatLit). holds some l) (sym (take-append-drop n xs)) ∙ holds-append (take n xs) (drop n xs) l
+
+pub held_take : (n : ℕ) (xs : List SatLit) (l : SatLit) → holds (take n xs) l ≡ true → holds xs l ≡ true
+held_take n xs l h = split n xs l ∙ or_left _ _ h
+
+pub held_drop : (n : ℕ) (xs : List SatLit) (l : SatLit) → holds (drop n xs) l ≡ true → holds xs l ≡ true
+held_drop n xs l h = split n xs l ∙ or_right _ _ h
+
+pub held_parts : (n : ℕ) (xs : List SatLit) (l : SatLit) → holds xs l ≡ true → (holds (take n xs) l ≡ true) ⊎ (holds (drop n xs) l ≡ true)
+held_parts n xs l h = or_cases (holds (take n xs) l) (holds (drop n xs) l) (sym (split n xs l) ∙ h)
+
+-- a slice up to the end
+pub from_on : {X : Type 0} (n : ℕ) (xs : List X) → take (length xs - n) (drop n xs) ≡ drop n xs
+from_on n xs = take_all (length xs - n) (drop n xs) (omega (arith, length-drop n xs))
 
 -- the literal that stands for one past the end of a list
 abbrev pub no_literal : SatLit

@@ -2,7 +2,7 @@
 use Rattle.std.proofs.Common.{◌≡◌, ◌≢◌, ◌⊎◌, inl, inr, ◌<◌, ◌≤◌, ◌+◌, ℕ, Bool, true, false, List, [], ◌∷◌, ◌++◌, Some, None, map, length, take, get_or, eqb, set, refl, sym, ap, ◌∙◌, subst, arith, length-append, append_assoc}
 use Rattle.std.specs.Prelude.{if◌then◌else◌}
 use Rattle.std.specs.List.{All, Contains, slice_get, swap_remove, IsDistinct, AllByRecursion, list_any}
-use Rattle.std.proofs.lemmas.Bool.{false≢true, cases_Bool, cases_order, or_left, or_parts, or_cases, eqb-true, false_from_ne_true}
+use Rattle.std.proofs.lemmas.Bool.{false≢true, cases_Bool, cases_order, or_left, or_parts, or_cases, eqb-true}
 use Rattle.std.proofs.lemmas.List.{take-append-le, take_all, map-append, length-map}
 use Rattle.std.proofs.lemmas.Map.Steps.{length-le_from_distinct_below}
 use Rattle.sat_base.specs.declared.literal.Var.{Var}
@@ -21,7 +21,7 @@ use Rattle.sat_laws.proofs.WatchLaws.{AreWithin, kept_push, kept_start, kept_nex
 use Rattle.sat_laws.proofs.TrailLaws.{held_at}
 use Rattle.sat_propagate.specs.Internal.Trail.{TrailState, literals, IsTrail}
 use Rattle.sat_propagate.specs.Internal.WatchLists.{WatchTable, NamesWatches, watchers}
-use Rattle.sat_propagate.specs.Internal.Propagator.{IsReasoned, IsPair, Watches, IsPropagator, IsWatchDone, AreDone, Rewatched, IsCovered, Enlists, Grew, texts}
+use Rattle.sat_propagate.specs.Internal.Propagator.{IsReasoned, IsPair, Watches, IsPropagator, IsWatchDone, AreDone, AreEntriesDone, Rewatched, IsCovered, Enlists, Grew, texts}
 use Rattle.sat_propagate.specs.declared.trail.Step.{Step}
 use Rattle.sat_propagate.specs.declared.watch_lists.Watch.{Watch}
 use Rattle.sat_propagate.specs.Internal.ClauseTable.{Watched}
@@ -42,9 +42,6 @@ Removes before after l i entry = (m : SatLit) → watchers after m ≡ (if same_
 -- the lists where an entry of a literal's list is put in the place of another
 abbrev pub Replaces : WatchTable → WatchTable → SatLit → ℕ → Watch → Type 0
 Replaces before after l i entry = (m : SatLit) → watchers after m ≡ (if same_literal l m then set (watchers before m) i entry else watchers before m)
-
-pub removed_here : (before after : WatchTable) (l : SatLit) (i : ℕ) (entry : Watch) → Removes before after l i entry → watchers after l ≡ swap_remove (watchers before l) i entry
-removed_here before after l i entry r = r l ∙ if_true (same_literal l l) _ _ (same_literal-refl l)
 
 -- 1. An entry is taken out that names no clause which watches the literal
 
@@ -85,11 +82,9 @@ right_removed trail processed clauses before after from i entry inside there idl
   lists_made = omega (arith, made, right.lists_made);
 }
 
-pub done_removed : (trail : TrailState) (clauses : List Watched) (before after : WatchTable) (from : SatLit) (i : ℕ) (entry : Watch) → i < length (watchers before from) → Removes before after from i entry
-    → AreDone trail clauses before from i → AreDone trail clauses after from i
-done_removed trail clauses before after from i entry inside removes done k other below at =
-    done k other below (sym (ap (λ (entries : List Watch). slice_get entries k) (removed_here before after from i entry removes)
-    ∙ get-swap_remove_before (watchers before from) i k entry below inside) ∙ at)
+pub done_removed : (trail : TrailState) (clauses : List Watched) (from : SatLit) (entries : List Watch) (i : ℕ) (entry : Watch) → i < length entries
+    → AreEntriesDone trail clauses from entries i → AreEntriesDone trail clauses from (swap_remove entries i entry) i
+done_removed trail clauses from entries i entry inside done k other below at = done k other below (sym (get-swap_remove_before entries i k entry below inside) ∙ at)
 
 -- 2. An entry gets another blocker of its clause
 
@@ -145,11 +140,11 @@ right_written trail processed clauses before after from i old entry inside there
 }
 
 -- one more entry is done, where its clause is true if it is its clause's
-pub done_more : (trail : TrailState) (clauses : List Watched) (lists : WatchTable) (from : SatLit) (i : ℕ) (entry : Watch) → slice_get (watchers lists from) i ≡ Some entry
-    → IsWatchDone trail clauses from entry → AreDone trail clauses lists from i → AreDone trail clauses lists from (i + 1)
-done_more trail clauses lists from i entry there done before k other below at =
+pub done_more : (trail : TrailState) (clauses : List Watched) (from : SatLit) (entries : List Watch) (i : ℕ) (entry : Watch) → slice_get entries i ≡ Some entry
+    → IsWatchDone trail clauses from entry → AreEntriesDone trail clauses from entries i → AreEntriesDone trail clauses from entries (i + 1)
+done_more trail clauses from entries i entry there done before k other below at =
     elim (cases_order k i) [
-      | inl same ↦ subst (IsWatchDone trail clauses from) (same_Some _ _ (sym there ∙ ap (slice_get (watchers lists from)) (sym same) ∙ at)) done
+      | inl same ↦ subst (IsWatchDone trail clauses from) (same_Some _ _ (sym there ∙ ap (slice_get entries) (sym same) ∙ at)) done
       | inr apart ↦ elim apart [
         | inl less ↦ before k other less at
         | inr more ↦ absurd (omega arith)
@@ -160,12 +155,11 @@ done_more trail clauses lists from i entry there done before k other below at =
 pub done_by_blocker : (trail : TrailState) (clauses : List Watched) (from : SatLit) (entry : Watch) → holds (literals trail.steps) entry.blocker ≡ true → IsWatchDone trail clauses from entry
 done_by_blocker trail clauses from entry blocked watched at watches member = satisfied_by (literals trail.steps) watched.clause entry.blocker member blocked
 
-pub done_written : (trail : TrailState) (clauses : List Watched) (before after : WatchTable) (from : SatLit) (i : ℕ) (entry : Watch) → Replaces before after from i entry
-    → AreDone trail clauses before from i → AreDone trail clauses after from i
-done_written trail clauses before after from i entry replaces done k other below at =
+pub done_written : (trail : TrailState) (clauses : List Watched) (from : SatLit) (entries : List Watch) (i : ℕ) (entry : Watch)
+    → AreEntriesDone trail clauses from entries i → AreEntriesDone trail clauses from (set entries i entry) i
+done_written trail clauses from entries i entry done k other below at =
     let apart : k ≢ i = omega arith in
-    done k other below (sym (ap (λ (entries : List Watch). slice_get entries k) (replaces from ∙ if_true (same_literal from from) _ _ (same_literal-refl from))
-    ∙ get-set_other (watchers before from) i k entry apart) ∙ at)
+    done k other below (sym (get-set_other entries i k entry apart) ∙ at)
 
 -- 3. A literal follows from a clause
 
@@ -272,9 +266,9 @@ right_assigned trail after processed clauses lists n watched l steps starts made
     longer = right_longer trail after.phases processed clauses lists n watched l made there unit right
 
 -- entries that are done stay so where the trail grows
-pub done_longer : (trail : TrailState) (more : List Step) (after : TrailState) (clauses : List Watched) (lists : WatchTable) (from : SatLit) (i : ℕ) → after.steps ≡ trail.steps ++ more
-    → AreDone trail clauses lists from i → AreDone after clauses lists from i
-done_longer trail more after clauses lists from i steps done k entry below at watched there watches member =
+pub done_longer : (trail : TrailState) (more : List Step) (after : TrailState) (clauses : List Watched) (from : SatLit) (entries : List Watch) (i : ℕ) → after.steps ≡ trail.steps ++ more
+    → AreEntriesDone trail clauses from entries i → AreEntriesDone after clauses from entries i
+done_longer trail more after clauses from entries i steps done k entry below at watched there watches member =
     subst (λ (list : List Step). satisfies (literals list) watched.clause ≡ true) (sym steps)
     (satisfies-more (literals trail.steps) (literals (trail.steps ++ more)) watched.clause
     (λ l h. subst (λ (list : List SatLit). holds list l ≡ true) (sym (map-append (λ (s : Step). s.literal) trail.steps more))
@@ -457,20 +451,16 @@ pub distinct_from : (watched : Watched) (from other : SatLit) → IsPair watched
 distinct_from watched from other (inl p) apart e = apart (p.0 ∙ e ∙ sym p.1)
 distinct_from watched from other (inr p) apart e = apart (p.1 ∙ sym e ∙ sym p.0)
 
-pub done_rewatched : (trail : TrailState) (before after : List Watched) (lists more : WatchTable) (n : ℕ) (from to other : SatLit)
-    (changed : Rewatched before after n from to other) → Enlists lists more to (record { clause = n; blocker = other }) → to ≢ from → from ≢ other
-    → (i : ℕ) → AreDone trail before lists from i → AreDone trail after more from i
-done_rewatched trail before after lists more n from to other changed enlists new apart i done k entry below at watched there watches member =
+pub done_rewatched : (trail : TrailState) (before after : List Watched) (entries : List Watch) (n : ℕ) (from to other : SatLit)
+    (changed : Rewatched before after n from to other) → to ≢ from → from ≢ other → (i : ℕ) → AreEntriesDone trail before from entries i → AreEntriesDone trail after from entries i
+done_rewatched trail before after entries n from to other changed new apart i done k entry below at watched there watches member =
     elim (changed_cases before after n from to other changed entry.clause watched there) [
       | inl same ↦ elim (watches_pair changed.new to other from changed.pair_after (subst (λ (w : Watched). Watches w from) (sym same.1) watches)) [
         | inl is_to ↦ absurd (new (sym is_to))
         | inr is_other ↦ absurd (apart is_other)
       ]
-      | inr old ↦ done k entry below (sym (ap (λ (entries : List Watch). slice_get entries k) same_list) ∙ at) watched old.1 watches member
+      | inr old ↦ done k entry below at watched old.1 watches member
     ]
-  where
-    same_list : watchers more from ≡ watchers lists from
-    same_list = enlists from ∙ if_false (same_literal to from) _ _ (false_from_ne_true (same_literal to from) (λ t. new (same_literal-true to from t)))
 
 -- a written clause
 pub rewatched_by_write : (before after : List Watched) (n : ℕ) (from to other : SatLit) (old new : Watched) → slice_get before n ≡ Some old → after ≡ set before n new

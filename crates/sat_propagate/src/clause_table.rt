@@ -1,5 +1,5 @@
 //! Clauses with their watched literals.
-ghost use Rattle.std.specs.Prelude.{◌≡◌, ◌≢◌, ◌<◌, ◌++◌, [], ◌∷◌, IsTrue, false, List, length, Some, slice_get, OnOk, OnErr, IfSome, IfNone};
+ghost use Rattle.std.specs.Prelude.{◌≡◌, ◌≢◌, ◌<◌, ◌++◌, [], ◌∷◌, IsTrue, false, List, length, take, Some, slice_get, slice_index_or, OnOk, OnErr, IfOk, IfSome, IfNone};
 ghost use Rattle.sat_base.specs.declared.literal.SatLit.{SatLit};
 ghost use Rattle.sat_propagate.specs.Internal.ClauseTable.{Watched};
 
@@ -8,13 +8,17 @@ use sat_base::SatLit;
 use std::alloc::{AllocError, Global};
 use std::marker::Model;
 
-/// A clause's watched literals, or twice one of it where it watches none, and where its literals stand.
+/// How many of a clause's literals stand with the watched ones.
+pub const NEAR: usize = 6;
+
+/// A clause's watched literals, or twice one of it where it watches none, where its literals stand, and the first of them.
 #[derive(Clone, Copy)]
 pub struct Head {
     pub first: Packed,
     pub second: Packed,
     pub start: u32,
     pub len: u32,
+    pub near: [Packed; NEAR],
 }
 
 impl Head {
@@ -35,6 +39,7 @@ impl Head {
     /// Watches a literal in place of another one.
     fn replace(&mut self, from: Packed, to: Packed)
         ensures place { (self.new.start ≡ self.old.start) × (self.new.len ≡ self.old.len) }
+        ensures near { self.new.near ≡ self.old.near }
         ensures pair { (literals : List SatLit) (other : SatLit) → IsPair (with_head literals self.old) from other → IsPair (with_head literals self.new) to other }
     {
         let kept = if self.first.is(from) {
@@ -55,13 +60,13 @@ pub struct ClauseTable {
 }
 
 impl Model for ClauseTable {
-    ghost use Rattle.sat_propagate.specs.Internal.ClauseTable.{Clauses, all_headed, AreHeads};
+    ghost use Rattle.sat_propagate.specs.Internal.ClauseTable.{Clauses, all_headed, IsClauseTable};
 
     ghost Value = { Clauses };
 
     ghost view = { λ t. record { items = all_headed t.literals.items t.heads.items } };
 
-    ghost invariant = { λ t. AreHeads t.literals.items t.heads.items };
+    ghost invariant = { λ t. IsClauseTable t.literals.items t.heads.items };
 }
 
 impl ClauseTable {
@@ -88,8 +93,26 @@ impl ClauseTable {
         ensures { (watched : Watched) → slice_get self.now.items n ≡ Some watched → result.now ≡ watched.clause }
     {
         let head = &self.heads[n];
+        let len = head.len as usize;
+        if len <= NEAR {
+            return &head.near[..len];
+        }
         let start = head.start as usize;
-        &self.literals[start..start + head.len as usize]
+        &self.literals[start..start + len]
+    }
+
+    /// The first literals of a clause.
+    pub fn near(&self, n: usize) -> &[Packed]
+        requires { n < length self.now.items }
+        ensures { (watched : Watched) → slice_get self.now.items n ≡ Some watched → result.now ≡ take 6 watched.clause }
+    {
+        let head = &self.heads[n];
+        let len = head.len as usize;
+        if len < NEAR {
+            &head.near[..len]
+        } else {
+            &head.near
+        }
     }
 
     /// A watched literal of a clause: the other one, where the clause watches this one. None where it watches none, or there is no
@@ -141,12 +164,14 @@ impl ClauseTable {
     {
         let start = narrow(self.literals.len())?;
         let len = narrow(clause.len())?;
+        let near = near_of(clause, first)?;
         append(&mut self.literals, clause)?;
         self.heads.push(Head {
             first,
             second,
             start,
             len,
+            near,
         })?;
         Ok(())
     }
@@ -194,4 +219,28 @@ fn append(literals: &mut Vec<Packed>, clause: &[SatLit]) -> Result<(), AllocErro
         literals.push(Packed::of(*literal)?)?;
     }
     Ok(())
+}
+
+/// The first literals of a clause, and another one as often as there is room for more.
+fn near_of(clause: &[SatLit], rest: Packed) -> Result<[Packed; NEAR], AllocError>
+    ensures { IfOk result (λ near. take (length clause.now) near ≡ take 6 clause.now) }
+{
+    Ok([
+        literal_or(clause, 0, rest)?,
+        literal_or(clause, 1, rest)?,
+        literal_or(clause, 2, rest)?,
+        literal_or(clause, 3, rest)?,
+        literal_or(clause, 4, rest)?,
+        literal_or(clause, 5, rest)?,
+    ])
+}
+
+/// A literal of a clause by its place, or another one where there is none.
+fn literal_or(clause: &[SatLit], at: usize, rest: Packed) -> Result<Packed, AllocError>
+    ensures { IfOk result (λ literal. literal ≡ slice_index_or clause.now at rest) }
+{
+    match clause.get(at) {
+        Some(literal) => Packed::of(*literal),
+        None => Ok(rest),
+    }
 }

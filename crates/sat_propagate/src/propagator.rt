@@ -8,13 +8,13 @@ ghost use Rattle.sat_laws.specs.Internal.Complete.{satisfies, IsClausePart};
 ghost use Rattle.sat_log.specs.Propagation.{IsFalseIn, IsUnitClause};
 ghost use Rattle.sat_propagate.specs.Internal.Insertion.{IsSooner, IsRank, IsBest, IsUnseen};
 ghost use Rattle.sat_propagate.specs.Internal.Trail.{literals, IsTrail};
-ghost use Rattle.sat_propagate.specs.Internal.WatchLists.{watchers};
-ghost use Rattle.sat_propagate.specs.Internal.Propagator.{IsPropagator, AreDone, IsWatchDone, Grew, IsConflict, Watches, Moves, texts};
+ghost use Rattle.sat_propagate.specs.Internal.WatchLists.{watchers, with_entries};
+ghost use Rattle.sat_propagate.specs.Internal.Propagator.{IsPropagator, AreDone, AreEntriesDone, IsWatchDone, Grew, IsConflict, Watches, Moves, texts};
 ghost use Rattle.sat_base.specs.declared.literal.Var.{Var};
 ghost use Rattle.sat_propagate.specs.Internal.Finding.{Finds, FindsOther};
 ghost use Rattle.sat_propagate.specs.Internal.ClauseTable.{Watched};
 
-use crate::clause_table::ClauseTable;
+use crate::clause_table::{ClauseTable, NEAR};
 use crate::decider::Decider;
 use crate::packed::{Packed, narrow};
 use crate::recent::Recent;
@@ -141,9 +141,30 @@ impl Propagator {
         ensures visited { IfOk result (λ r. r ≡ None → AreDone self.new.trail self.new.clauses.items self.new.lists falsified (length (watchers self.new.lists falsified))) }
         ensures conflict { IfOk result (λ r. (n : ℕ) → r ≡ Some n → IsConflict self.new.trail self.new.clauses.items n) }
     {
+        let mut entries = self.lists.take(falsified);
+        let found = self.visit_entries(falsified, &mut entries);
+        self.lists.put(falsified, entries);
+        found
+    }
+
+    /// Visits the entries of a literal which became false, while they are taken out of the lists.
+    fn visit_entries(
+        &mut self,
+        falsified: Packed,
+        entries: &mut Vec<Watch>,
+    ) -> Result<Option<usize>, AllocError>
+        requires right { IsPropagator self.old.trail self.old.processed self.old.clauses.items (with_entries self.old.lists falsified entries.old.items) }
+        requires falsified { IsTrue (holds (literals self.old.trail.steps) (negated falsified)) }
+        requires made { falsified.var.0 < length self.old.trail.phases }
+        ensures right { IsPropagator self.new.trail self.new.processed self.new.clauses.items (with_entries self.new.lists falsified entries.new.items) }
+        ensures grew { Grew self.old.trail self.old.clauses.items self.new.trail self.new.clauses.items }
+        ensures processed { self.new.processed ≡ self.old.processed }
+        ensures visited { IfOk result (λ r. r ≡ None → AreEntriesDone self.new.trail self.new.clauses.items falsified entries.new.items (length entries.new.items)) }
+        ensures conflict { IfOk result (λ r. (n : ℕ) → r ≡ Some n → IsConflict self.new.trail self.new.clauses.items n) }
+    {
         let mut i = 0;
-        while let Some(at) = self.next_entry(falsified, i) {
-            match self.visit_entry(falsified, at)? {
+        while let Some(at) = self.next_entry(entries.as_slice(), i) {
+            match self.visit_entry(falsified, entries, at)? {
                 Visited::Next => i = at + 1,
                 Visited::Again => i = at,
                 Visited::False(conflict) => return Ok(Some(conflict)),
@@ -152,16 +173,14 @@ impl Propagator {
         Ok(None)
     }
 
-    /// The first entry of a literal, from a number on, whose blocker is not true.
-    fn next_entry(&self, falsified: Packed, from: usize) -> Option<usize>
-        requires { falsified.var.0 * 2 + 1 < length self.now.lists }
+    /// The first entry, from a number on, whose blocker is not true.
+    fn next_entry(&self, entries: &[Watch], from: usize) -> Option<usize>
         ensures later { IfSome result (λ at. from ≤ at) }
-        ensures inside { IfSome result (λ at. at < length (watchers self.now.lists falsified)) }
-        ensures done { IfSome result (λ at. AreDone self.now.trail self.now.clauses.items self.now.lists falsified from → AreDone self.now.trail self.now.clauses.items self.now.lists falsified at) }
+        ensures inside { IfSome result (λ at. at < length entries.now) }
+        ensures done { IfSome result (λ at. (l : SatLit) → AreEntriesDone self.now.trail self.now.clauses.items l entries.now from → AreEntriesDone self.now.trail self.now.clauses.items l entries.now at) }
         ensures fits { IfSome result (λ at. at + 1 < 2 ^ 64) }
-        ensures none { IfNone result (AreDone self.now.trail self.now.clauses.items self.now.lists falsified from → AreDone self.now.trail self.now.clauses.items self.now.lists falsified (length (watchers self.now.lists falsified))) }
+        ensures none { IfNone result ((l : SatLit) → AreEntriesDone self.now.trail self.now.clauses.items l entries.now from → AreEntriesDone self.now.trail self.now.clauses.items l entries.now (length entries.now)) }
     {
-        let entries = self.lists.of(falsified);
         for at in from..entries.len() {
             if !self.trail.affirms(entries[at].blocker) {
                 return Some(at);
@@ -171,33 +190,38 @@ impl Propagator {
     }
 
     /// Visits one of the entries of a literal which became false.
-    fn visit_entry(&mut self, falsified: Packed, i: usize) -> Result<Visited, AllocError>
-        requires right { IsPropagator self.old.trail self.old.processed self.old.clauses.items self.old.lists }
+    fn visit_entry(
+        &mut self,
+        falsified: Packed,
+        entries: &mut Vec<Watch>,
+        i: usize,
+    ) -> Result<Visited, AllocError>
+        requires right { IsPropagator self.old.trail self.old.processed self.old.clauses.items (with_entries self.old.lists falsified entries.old.items) }
         requires falsified { IsTrue (holds (literals self.old.trail.steps) (negated falsified)) }
         requires made { falsified.var.0 < length self.old.trail.phases }
-        requires there { i < length (watchers self.old.lists falsified) }
-        ensures right { IsPropagator self.new.trail self.new.processed self.new.clauses.items self.new.lists }
+        requires there { i < length entries.old.items }
+        ensures right { IsPropagator self.new.trail self.new.processed self.new.clauses.items (with_entries self.new.lists falsified entries.new.items) }
         ensures grew { Grew self.old.trail self.old.clauses.items self.new.trail self.new.clauses.items }
         ensures processed { self.new.processed ≡ self.old.processed }
-        ensures next { IfOk result (λ r. r ≡ Visited.Next → (length (watchers self.new.lists falsified) ≡ length (watchers self.old.lists falsified)) × (AreDone self.old.trail self.old.clauses.items self.old.lists falsified i → AreDone self.new.trail self.new.clauses.items self.new.lists falsified (i + 1))) }
-        ensures again { IfOk result (λ r. r ≡ Visited.Again → (length (watchers self.new.lists falsified) + 1 ≡ length (watchers self.old.lists falsified)) × (AreDone self.old.trail self.old.clauses.items self.old.lists falsified i → AreDone self.new.trail self.new.clauses.items self.new.lists falsified i)) }
+        ensures next { IfOk result (λ r. r ≡ Visited.Next → (length entries.new.items ≡ length entries.old.items) × (AreEntriesDone self.old.trail self.old.clauses.items falsified entries.old.items i → AreEntriesDone self.new.trail self.new.clauses.items falsified entries.new.items (i + 1))) }
+        ensures again { IfOk result (λ r. r ≡ Visited.Again → (length entries.new.items + 1 ≡ length entries.old.items) × (AreEntriesDone self.old.trail self.old.clauses.items falsified entries.old.items i → AreEntriesDone self.new.trail self.new.clauses.items falsified entries.new.items i)) }
         ensures conflict { IfOk result (λ r. (n : ℕ) → r ≡ Visited.False n → IsConflict self.new.trail self.new.clauses.items n) }
     {
-        let watch = self.lists.entry(falsified, i);
+        let watch = entries[i];
         let n = watch.clause as usize;
         match self.look_at(n, falsified) {
             Finding::Stale => {
-                let _ = self.lists.remove(falsified, i);
+                let _ = entries.swap_remove(i);
                 Ok(Visited::Again)
             }
             Finding::Satisfied(blocker) => {
                 let clause = watch.clause;
-                self.lists.set(falsified, i, Watch { clause, blocker });
+                entries[i] = Watch { clause, blocker };
                 Ok(Visited::Next)
             }
             Finding::Other(literal) => {
                 self.watch_other(watch.clause, falsified, literal)?;
-                let _ = self.lists.remove(falsified, i);
+                let _ = entries.swap_remove(i);
                 Ok(Visited::Again)
             }
             Finding::Unit(literal) => {
@@ -219,12 +243,29 @@ impl Propagator {
         if self.trail.affirms(other) {
             return Finding::Satisfied(other);
         }
-        match self.replacement(self.clauses.literals(n), other) {
+        match self.replacement_in(n, other) {
             Some(literal) if self.clauses.watches(n, falsified) => Finding::Other(literal),
             Some(_) => Finding::Stale,
             None if self.trail.denies(other) => Finding::False,
             None => Finding::Unit(other.literal()),
         }
+    }
+
+    /// A literal of a clause that is not false, other than this one. It is looked for among the near ones first.
+    fn replacement_in(&self, n: usize, other: Packed) -> Option<Packed>
+        requires { n < length self.now.clauses.items }
+        ensures new { IfSome result (λ l. (l ≢ other) × (holds (literals self.now.trail.steps) (negated l) ≡ false)) }
+        ensures member { IfSome result (λ l. (watched : Watched) → slice_get self.now.clauses.items n ≡ Some watched → IsTrue (holds watched.clause l)) }
+        ensures none { IfNone result ((watched : Watched) → slice_get self.now.clauses.items n ≡ Some watched → (l : SatLit) → IsTrue (holds watched.clause l) → l ≢ other → IsTrue (holds (literals self.now.trail.steps) (negated l))) }
+    {
+        if let Some(literal) = self.replacement(self.clauses.near(n), other) {
+            return Some(literal);
+        }
+        let literals = self.clauses.literals(n);
+        if literals.len() <= NEAR {
+            return None;
+        }
+        self.replacement(&literals[NEAR..], other)
     }
 
     /// A literal that is not false, other than this one.

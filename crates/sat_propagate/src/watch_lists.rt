@@ -1,6 +1,5 @@
 //! For each literal the clauses that watch it.
-ghost use Rattle.std.specs.Prelude.{◌≡◌, ◌<◌, ◌+◌, ◌*◌, [], ◌∷◌, ◌++◌, if◌then◌else◌, length, slice_get, slice_set, Some, OnOk, OnErr};
-ghost use Rattle.std.specs.List.{swap_remove};
+ghost use Rattle.std.specs.Prelude.{◌≡◌, ◌<◌, ◌+◌, ◌*◌, [], ◌∷◌, ◌++◌, if◌then◌else◌, length, OnOk, OnErr};
 ghost use Rattle.sat_base.specs.declared.literal.SatLit.{SatLit};
 ghost use Rattle.sat_base.specs.Literal.{same_literal};
 
@@ -8,6 +7,7 @@ use crate::packed::{Packed, number_of};
 use sat_base::SatLit;
 use std::alloc::{AllocError, Global};
 use std::marker::Model;
+use std::mem;
 
 /// A clause that watches a literal, and some literal of it: where that one is true, the clause is.
 #[derive(Clone, Copy)]
@@ -47,7 +47,7 @@ impl Model for WatchLists {
 }
 
 impl WatchLists {
-    ghost use Rattle.sat_propagate.specs.Internal.WatchLists.{watchers};
+    ghost use Rattle.sat_propagate.specs.Internal.WatchLists.{watchers, with_entries};
 
     pub fn new(alloc: Global) -> Self
         ensures { result ≡ [] }
@@ -73,23 +73,6 @@ impl WatchLists {
         Ok(())
     }
 
-    /// The entries of a literal.
-    pub fn of(&self, literal: Packed) -> &[Watch]
-        requires { literal.var.0 * 2 + 1 < length self.now }
-        ensures { result.now ≡ watchers self.now literal }
-    {
-        self.lists[literal.number()].entries.as_slice()
-    }
-
-    /// One of the entries of a literal.
-    pub fn entry(&self, literal: Packed, at: usize) -> Watch
-        requires made { literal.var.0 * 2 + 1 < length self.now }
-        requires there { at < length (watchers self.now literal) }
-        ensures { slice_get (watchers self.now literal) at ≡ Some result }
-    {
-        self.of(literal)[at]
-    }
-
     pub fn push(&mut self, literal: SatLit, watch: Watch) -> Result<(), AllocError>
         requires { literal.var.0 * 2 + 1 < length self.old }
         ensures ok { OnOk result ((m : SatLit) → watchers self.new m ≡ (if same_literal literal m then watchers self.old m ++ watch ∷ [] else watchers self.old m)) }
@@ -102,26 +85,23 @@ impl WatchLists {
         Ok(())
     }
 
-    /// Puts an entry in the place of another one.
-    pub fn set(&mut self, literal: Packed, at: usize, watch: Watch)
-        requires made { literal.var.0 * 2 + 1 < length self.old }
-        requires there { at < length (watchers self.old literal) }
-        ensures entries { (m : SatLit) → watchers self.new m ≡ (if same_literal literal m then slice_set (watchers self.old m) at watch else watchers self.old m) }
+    /// Takes the entries of a literal out.
+    pub fn take(&mut self, literal: Packed) -> Vec<Watch>
+        requires { literal.var.0 * 2 + 1 < length self.old }
+        ensures entries { with_entries self.new literal result.items ≡ self.old }
         ensures made { length self.new ≡ length self.old }
     {
+        let none = Vec::new(self.alloc);
         let list = &mut self.lists[literal.number()];
-        list.entries[at] = watch;
+        mem::replace(&mut list.entries, none)
     }
 
-    /// Takes an entry out of the list of a literal. The last one takes its place.
-    pub fn remove(&mut self, literal: Packed, at: usize) -> Watch
-        requires made { literal.var.0 * 2 + 1 < length self.old }
-        requires there { at < length (watchers self.old literal) }
-        ensures entry { slice_get (watchers self.old literal) at ≡ Some result }
-        ensures entries { (m : SatLit) → watchers self.new m ≡ (if same_literal literal m then swap_remove (watchers self.old m) at result else watchers self.old m) }
-        ensures made { length self.new ≡ length self.old }
+    /// Puts entries in the place of those of a literal.
+    pub fn put(&mut self, literal: Packed, entries: Vec<Watch>)
+        requires { literal.var.0 * 2 + 1 < length self.old }
+        ensures { self.new ≡ with_entries self.old literal entries.items }
     {
         let list = &mut self.lists[literal.number()];
-        list.entries.swap_remove(at)
+        list.entries = entries;
     }
 }

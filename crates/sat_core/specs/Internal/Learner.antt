@@ -7,7 +7,7 @@ use Rattle.sat_base.specs.Literal.{HoldsNoVariableTwice, IsAlike, IsOver}
 use Rattle.sat_base.specs.Truth.{AllTrue, assigned}
 use Rattle.sat_log.specs.declared.chain.Premise.{Premise}
 use Rattle.sat_log.specs.declared.log.LogEntry.{LogEntry}
-use Rattle.sat_log.specs.Chains.{premise_clause, results, IsLogOver}
+use Rattle.sat_log.specs.Chains.{results, IsLogOver}
 use Rattle.sat_log.specs.Propagation.{IsNew, ReachesFalse, AreFailingDecisions}
 use Rattle.sat_core.specs.Internal.Learned.{AreNamedPremises}
 use Rattle.sat_core.specs.Solver.{SolverState, learned_from, AreAmong, OccurIn, WereLearned}
@@ -17,14 +17,16 @@ use Rattle.sat_core.specs.declared.learner.Answer.TheVariants.{Sat, Unsat, Spent
 use Rattle.sat_propagate.specs.Internal.Propagator.{IsPropagator, texts}
 use Rattle.sat_propagate.specs.declared.propagator.Propagator.{Propagator}
 
--- each clause of the propagator has the name of a clause or result that it is; the variables of clauses and results are made, and have
--- marks
+-- each clause of the propagator has the name of a clause or result that it is, and its variables have marks
 pub record IsNamedPropagator (clauses results : List (List SatLit)) (propagator : Propagator) (names : List Premise) (marks : List Bool) : Type 0 where
   pub right : IsPropagator propagator.trail propagator.processed propagator.clauses.items propagator.lists
   pub named : AreNamedPremises clauses results names propagator.clauses.items
   pub names_made : length names ≡ length propagator.clauses.items
   pub marks_made : length propagator.trail.phases ≤ length marks
-  pub over : (premise : Premise) (clause : List SatLit) → premise_clause clauses results premise ≡ Some clause → IsOver (length propagator.trail.phases) clause
+
+-- the variables of the clauses have numbers below n
+abbrev pub AreOver : ℕ → List (List SatLit) → Type 0
+AreOver n clauses = (k : ℕ) (clause : List SatLit) → slice_get clauses k ≡ Some clause → IsOver n clause
 
 -- the first clauses of a list, up to number n, are among some others
 abbrev pub AreInserted : ℕ → List (List SatLit) → List (List SatLit) → Type 0

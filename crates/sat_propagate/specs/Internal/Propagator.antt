@@ -57,9 +57,13 @@ abbrev pub IsWatchDone : TrailState → List Watched → SatLit → Watch → Ty
 IsWatchDone trail clauses l entry =
     (watched : Watched) → slice_get clauses entry.clause ≡ Some watched → Watches watched l → IsTrue (holds watched.clause entry.blocker) → IsTrue (satisfies (literals trail.steps) watched.clause)
 
+-- the first of some entries of a literal are done
+abbrev pub AreEntriesDone : TrailState → List Watched → SatLit → List Watch → ℕ → Type 0
+AreEntriesDone trail clauses l entries i = (k : ℕ) (entry : Watch) → k < i → slice_get entries k ≡ Some entry → IsWatchDone trail clauses l entry
+
 -- the first entries of a literal's list are done
 abbrev pub AreDone : TrailState → List Watched → WatchTable → SatLit → ℕ → Type 0
-AreDone trail clauses lists l i = (k : ℕ) (entry : Watch) → k < i → slice_get (watchers lists l) k ≡ Some entry → IsWatchDone trail clauses l entry
+AreDone trail clauses lists l i = AreEntriesDone trail clauses l (watchers lists l) i
 
 -- the trail only grew, at its end and with no decision, and the clauses are the same
 pub record Grew (trail : TrailState) (clauses : List Watched) (after : TrailState) (clauses_after : List Watched) : Type 0 where

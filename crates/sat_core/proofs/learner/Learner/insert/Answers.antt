@@ -8,12 +8,14 @@ use Rattle.sat_propagate.specs.Internal.Trail.{literals}
 use Rattle.sat_propagate.specs.Internal.Propagator.{texts}
 use Rattle.sat_core.specs.Internal.Learner.{IsNamedPropagator, IsLearnerOf}
 use Rattle.sat_core.proofs.NameLaws.{ready_pushed, ready_same}
-use Rattle.sat_core.proofs.LearnerSteps.{learner_kept, Includes-same, Includes-push}
+use Rattle.sat_core.proofs.LearnerSteps.{premise_over, learner_kept, Includes-same, Includes-push}
 use Rattle.sat_core.proofs.learner.Learner.insert.Goals as goal
 
 pub insert-requires-clause-over : goal.insert-requires-clause-over
 insert-requires-clause-over c =
-    subst (IsOver (length c.args.self.now.propagator.trail.phases)) (sym c.as_slice-clause.ensures) (c.requires.learner.ready.over c.args.premise c.named.result.now c.named.ensures)
+    let s = c.args.self.now in
+    subst (IsOver (length s.propagator.trail.phases)) (sym c.as_slice-clause.ensures)
+    (premise_over (length s.propagator.trail.phases) s.clauses s.log s.is_refuted c.args.premise c.named.result.now c.requires.open c.requires.over c.requires.learner.of_learned c.named.ensures)
 
 pub returns-in_err-inserted-clause-learner : goal.returns-in_err-inserted-clause-learner
 returns-in_err-inserted-clause-learner c =

@@ -25,7 +25,7 @@ returns-clause-learner c =
     appended_results s.clauses s.log after c.args.chain learns.outcome (learns.derived s.clauses (results s.log) l.ready.named) c.in_ok-push.ensures.ok in
     let known : AreLearned s.clauses (results s.log) = subst (AreLearned s.clauses) (learned_open s.is_refuted (results s.log) c.requires.open) l.of_learned in
     let ready : IsNamedPropagator s.clauses (results after) s.propagator s.names.items s.marks =
-    ready_appended s.clauses s.log after s.propagator s.names.items s.marks c.args.chain l.ready learns c.in_ok-push.ensures.ok in
+    ready_appended s.clauses s.log after s.propagator s.names.items s.marks c.args.chain l.ready c.in_ok-push.ensures.ok in
     let same : texts bumped.clauses.items ≡ texts s.propagator.clauses.items = ap texts c.bump.ensures.clauses in
     learner_kept s.clauses after s.is_refuted s.propagator bumped s.names.items s.names.items s.marks s.marks s.inserted_clauses s.inserted_results
     (ready_same s.clauses (results after) s.propagator bumped s.names.items s.marks

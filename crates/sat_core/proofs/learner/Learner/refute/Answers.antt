@@ -1,6 +1,5 @@
-use Rattle.std.proofs.Common.{◌≡◌, ◌<◌, [], ◌∷◌, ◌++◌, List, Some, length, refl, sym, ap, ◌∙◌, subst, arith}
+use Rattle.std.proofs.Common.{◌≡◌, [], ◌∷◌, ◌++◌, List, Some, length, refl, sym, ap, ◌∙◌, subst, arith}
 use Rattle.std.proofs.lemmas.Option.{same_Some}
-use Rattle.std.proofs.lemmas.List.Elements.{All-nil}
 use Rattle.sat_base.specs.declared.literal.SatLit.{SatLit}
 use Rattle.sat_base.specs.Literal.{IsOver}
 use Rattle.sat_log.specs.declared.chain.Premise.{Premise}
@@ -11,13 +10,15 @@ use Rattle.sat_core.specs.Internal.Learned.{AreNamedPremises}
 use Rattle.sat_core.specs.Internal.Learner.{IsNamedPropagator, IsLearnerOf}
 use Rattle.sat_core.proofs.NameLaws.{appended_results, ready_learned, ready_marks}
 use Rattle.sat_core.proofs.LearnerLaws.{Grew-same, Grew-pushed}
-use Rattle.sat_core.proofs.LearnerSteps.{learner_kept, learner_refuted, Includes-same}
+use Rattle.sat_core.proofs.LearnerSteps.{premise_over, learner_kept, learner_refuted, Includes-same}
 use Rattle.sat_core.proofs.DecisionLaws.{premise_among, root_reaches_false}
 use Rattle.sat_core.proofs.learner.Learner.refute.Goals as goal
 
 pub refuted_chain-requires-clause-over : goal.refuted_chain-requires-clause-over
 refuted_chain-requires-clause-over c =
-    subst (IsOver (length c.args.self.now.propagator.trail.phases)) (sym c.as_slice-2.ensures) (c.requires.learner.ready.over c.args.premise c.named.result.now c.named.ensures)
+    let s = c.args.self.now in
+    subst (IsOver (length s.propagator.trail.phases)) (sym c.as_slice-2.ensures)
+    (premise_over (length s.propagator.trail.phases) s.clauses s.log s.is_refuted c.args.premise c.named.result.now c.requires.open c.requires.over c.requires.learner.of_learned c.named.ensures)
 
 pub returns-in_err-chain-clause-grew : goal.returns-in_err-chain-clause-grew
 returns-in_err-chain-clause-grew c = Grew-same c.args.self.now _ refl refl refl
@@ -57,7 +58,7 @@ returns-clause-learner c =
     ready_marks s.clauses (results s.log) s.propagator s.names.items s.marks marks (omega (arith, c.refuted_chain.ensures.made)) c.requires.learner.ready in
     learner_refuted s.clauses s.log after s.is_refuted s.propagator s.names.items marks s.inserted_clauses s.inserted_results c.requires.open
     (subst (λ (list : List (List SatLit)). IsNamedPropagator s.clauses list s.propagator s.names.items marks) (sym are)
-    (ready_learned s.clauses (results s.log) s.propagator s.names.items marks [] (All-nil (λ (l : SatLit). l.var.0 < length s.propagator.trail.phases)) ready))
+    (ready_learned s.clauses (results s.log) s.propagator s.names.items marks [] ready))
     c.push.ensures.right are
     (root_reaches_false s.clauses (results s.log) s.propagator s.names.items s.marks clause c.requires.learner.ready c.in_ok-chain.ensures.trail c.requires.root
     (premise_among s.clauses (results s.log) c.args.premise clause c.named.ensures) (c.requires.falsified clause c.named.ensures))

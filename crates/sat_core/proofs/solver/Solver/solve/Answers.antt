@@ -1,10 +1,8 @@
-use Rattle.std.proofs.Common.{◌≡◌, true, ℕ, sym, subst, ◌∙◌}
-use Rattle.sat_base.specs.Literal.{IsOver}
+use Rattle.std.proofs.Common.{◌≡◌, true, subst, ◌∙◌}
 use Rattle.sat_base.specs.Truth.{Unsat}
-use Rattle.sat_log.specs.declared.chain.Premise.TheVariants.{Clause}
 use Rattle.sat_core.specs.Internal.Learner.{AnswersSolve, seen, state_with}
 use Rattle.sat_core.specs.Solver.{SolverState, SolverGrows}
-use Rattle.sat_core.proofs.SolverLaws.{unsat_of, grows_of, grows_same, grows_shown}
+use Rattle.sat_core.proofs.SolverLaws.{unsat_of, grows_of, grows_same, grows_shown, grows_made}
 use Rattle.sat_core.proofs.solver.Solver.solve.Goals as goal
 
 pub returns-then-self-clause-unsat : goal.returns-then-self-clause-unsat
@@ -14,8 +12,7 @@ pub returns-then-self-clause-grows : goal.returns-then-self-clause-grows
 returns-then-self-clause-grows c = grows_same c.args.self.now
 
 pub satisfy-requires-clause-over : goal.satisfy-requires-clause-over
-satisfy-requires-clause-over c = λ k clause at.
-    subst (λ (n : ℕ). IsOver n clause) (sym c.self.invariant.made) (c.self.invariant.learns.ready.over (Clause k) clause at)
+satisfy-requires-clause-over c = c.self.invariant.over
 
 pub returns-in_err-satisfy-clause-grows : goal.returns-in_err-satisfy-clause-grows
 returns-in_err-satisfy-clause-grows c =
@@ -31,12 +28,22 @@ returns-then-branch-clause-grows c =
     subst (λ (state : SolverState). SolverGrows state (state_with keeper.values.items s.learner)) c.self.view_is
     (grows_shown s.learner s.learner s.keeper.values.items keeper.values.items c.satisfy.ensures.made (grows_same (seen s.learner)))
 
+pub returns-in_err-make_variables-clause-grows : goal.returns-in_err-make_variables-clause-grows
+returns-in_err-make_variables-clause-grows c =
+    let s = c.self.inside in
+    let made = c.make_variables.new.self in
+    let keeper = c.satisfy.new.self in
+    subst (λ (state : SolverState). SolverGrows state (state_with keeper.values.items made)) c.self.view_is
+    (grows_made s.learner made made s.keeper.values.items keeper.values.items c.make_variables.ensures.clauses c.make_variables.ensures.log c.make_variables.ensures.refuted c.satisfy.ensures.made (grows_same (seen made)))
+
 pub returns-in_err-answer-clause-grows : goal.returns-in_err-answer-clause-grows
 returns-in_err-answer-clause-grows c =
     let s = c.self.inside in
+    let made = c.make_variables.new.self in
     let keeper = c.satisfy.new.self in
     subst (λ (state : SolverState). SolverGrows state (state_with keeper.values.items c.solve.new.self)) c.self.view_is
-    (grows_shown s.learner c.solve.new.self s.keeper.values.items keeper.values.items c.satisfy.ensures.made (grows_of s.learner c.solve.new.self c.if-self.false c.solve.ensures.learner c.solve.ensures.grew))
+    (grows_made s.learner made c.solve.new.self s.keeper.values.items keeper.values.items c.make_variables.ensures.clauses c.make_variables.ensures.log c.make_variables.ensures.refuted c.satisfy.ensures.made
+    (grows_of made c.solve.new.self (c.make_variables.ensures.refuted ∙ c.if-self.false) c.solve.ensures.learner c.solve.ensures.grew))
 
 pub returns-then-ne-clause-unsat : goal.returns-then-ne-clause-unsat
 returns-then-ne-clause-unsat c = λ e.
@@ -46,20 +53,26 @@ returns-then-ne-clause-unsat c = λ e.
 pub returns-then-ne-clause-grows : goal.returns-then-ne-clause-grows
 returns-then-ne-clause-grows c =
     let s = c.self.inside in
+    let made = c.make_variables.new.self in
     let keeper = c.satisfy.new.self in
     subst (λ (state : SolverState). SolverGrows state (state_with keeper.values.items c.solve.new.self)) c.self.view_is
-    (grows_shown s.learner c.solve.new.self s.keeper.values.items keeper.values.items c.satisfy.ensures.made (grows_of s.learner c.solve.new.self c.if-self.false c.solve.ensures.learner c.solve.ensures.grew))
+    (grows_made s.learner made c.solve.new.self s.keeper.values.items keeper.values.items c.make_variables.ensures.clauses c.make_variables.ensures.log c.make_variables.ensures.refuted c.satisfy.ensures.made
+    (grows_of made c.solve.new.self (c.make_variables.ensures.refuted ∙ c.if-self.false) c.solve.ensures.learner c.solve.ensures.grew))
 
 pub returns-in_err-adopt-clause-grows : goal.returns-in_err-adopt-clause-grows
 returns-in_err-adopt-clause-grows c =
     let s = c.self.inside in
+    let made = c.make_variables.new.self in
     let keeper = c.adopt.new.self in
     subst (λ (state : SolverState). SolverGrows state (state_with keeper.values.items c.solve.new.self)) c.self.view_is
-    (grows_shown s.learner c.solve.new.self s.keeper.values.items keeper.values.items (c.adopt.ensures.made ∙ c.satisfy.ensures.made) (grows_of s.learner c.solve.new.self c.if-self.false c.solve.ensures.learner c.solve.ensures.grew))
+    (grows_made s.learner made c.solve.new.self s.keeper.values.items keeper.values.items c.make_variables.ensures.clauses c.make_variables.ensures.log c.make_variables.ensures.refuted
+    (c.adopt.ensures.made ∙ c.satisfy.ensures.made) (grows_of made c.solve.new.self (c.make_variables.ensures.refuted ∙ c.if-self.false) c.solve.ensures.learner c.solve.ensures.grew))
 
 pub returns-clause-grows : goal.returns-clause-grows
 returns-clause-grows c =
     let s = c.self.inside in
+    let made = c.make_variables.new.self in
     let keeper = c.adopt.new.self in
     subst (λ (state : SolverState). SolverGrows state (state_with keeper.values.items c.solve.new.self)) c.self.view_is
-    (grows_shown s.learner c.solve.new.self s.keeper.values.items keeper.values.items (c.adopt.ensures.made ∙ c.satisfy.ensures.made) (grows_of s.learner c.solve.new.self c.if-self.false c.solve.ensures.learner c.solve.ensures.grew))
+    (grows_made s.learner made c.solve.new.self s.keeper.values.items keeper.values.items c.make_variables.ensures.clauses c.make_variables.ensures.log c.make_variables.ensures.refuted
+    (c.adopt.ensures.made ∙ c.satisfy.ensures.made) (grows_of made c.solve.new.self (c.make_variables.ensures.refuted ∙ c.if-self.false) c.solve.ensures.learner c.solve.ensures.grew))

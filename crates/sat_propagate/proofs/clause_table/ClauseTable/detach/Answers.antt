@@ -13,7 +13,7 @@ returns c =
     let literals = c.self.inside.literals.items in
     let heads = c.self.inside.heads.items in
     let head : Head = c.index_mut-head.result.now in
-    let new : Head = record { first = head.first; second = head.first; start = head.start; len = head.len } in
+    let new : Head = record { first = head.first; second = head.first; start = head.start; len = head.len; near = head.near } in
     let made : c.args.n < length heads = omega (arith, length-map heads (with_head literals), ap (λ (t : Clauses). length t.items) c.self.view_is, c.requires) in
     let found : slice_get heads c.args.n ≡ Some head = slice_get-get_or heads c.args.n head made ∙ ap Some (sym c.index_mut-head.ensures.value) in
     let was : slice_get c.args.self.now.items c.args.n ≡ Some (with_head literals head) =
