@@ -7,5 +7,6 @@ pub use Rattle.term_bank.specs.Content
 pub use Rattle.term_bank.specs.NodeView
 pub use Rattle.term_bank.specs.Terms
 pub mod Atoms
+pub mod Numbers
 pub mod Laws
 pub mod Internal

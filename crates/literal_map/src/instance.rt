@@ -4,76 +4,11 @@ ghost use Rattle.std.specs.Prelude.{◌≡◌, ◌<◌, [], ◌∷◌, ◌++◌,
 use sat_base::SatLit;
 use std::alloc::{AllocError, Global};
 use std::marker::Model;
+use tableau_calculus::RuleUse;
 use term_bank::Id;
 
-/// The rules of the calculus. A rule has principals, which stand in the branch, and alternatives: lists of literals with each of which the
-/// branch goes on. Each line ends with the rule's source, and its name there where it has one: C. E. Brown, G. Smolka, *Analytic tableaux
-/// for simple type theory and its first-order fragment*, 2010, or J. Backes, C. E. Brown, *Analytic tableaux for higher-order logic with
-/// choice*, 2011. The table is `tableau_calculus/specs/Rules`.
-#[derive(Clone, Copy, PartialEq, Eq)]
-pub enum RuleKind {
-    /// The principal is falsity. There is no alternative: the branch is closed (this project's form of the rules for connectives).
-    False,
-    /// The principals are a literal and its negation. There is no alternative (Brown and Smolka 2010, where a branch is closed).
-    Close,
-    /// The principal is a negated equation of a term with itself. There is no alternative (Brown and Smolka 2010, where a branch is closed;
-    /// here at each type).
-    Refl,
-    /// The principal is an implication. One alternative has the negation of its left side, the other its right side (this project's form
-    /// of the rules for connectives).
-    ImpPos,
-    /// The principal is a negated implication. The only alternative has its left side and the negation of its right side (this project's
-    /// form of the rules for connectives).
-    ImpNeg,
-    /// The principal is an equation of formulas. One alternative has both sides, the other the negations of both (Brown and Smolka 2010,
-    /// BQ).
-    BoolPos,
-    /// The principal is a negated equation of formulas. Each alternative has one side and the negation of the other (Brown and Smolka 2010,
-    /// BE).
-    BoolNeg,
-    /// The principal is an equation of functions. The only alternative says that they agree at each argument (Brown and Smolka 2010, FQ;
-    /// here the alternative is a quantified formula).
-    FunPos,
-    /// The principal is a negated equation of functions. The only alternative denies that they agree at each argument (Brown and Smolka
-    /// 2010, FE; here the alternative is a negated quantified formula).
-    FunNeg,
-    /// The principal says that a predicate holds everywhere. The only alternative says that it holds of the term that the rule takes
-    /// (Backes and Brown 2011, the rule for quantifiers; there the branch restricts the terms).
-    AllPos,
-    /// The principal denies that a predicate holds everywhere. The only alternative denies that it holds of the predicate's witness (Backes
-    /// and Brown 2011, the rule for negated quantifiers; there a new name stands in place of the witness).
-    AllNeg,
-    /// Mating. The principals are an atom and a negated atom with one head, which is a name, a witness, a choice or a description, and with
-    /// arguments. For each argument there is an alternative, which says that the two there differ (Brown and Smolka 2010, MAT; a choice as
-    /// the head: Backes and Brown 2011; a description as the head is this project's own).
-    Mat,
-    /// Decomposition. The principal is a negated equation on a base type other than that of formulas. Its sides have one head, as in `Mat`,
-    /// and arguments. For each argument there is an alternative, which says that the two there differ (Brown and Smolka 2010, DEC; the
-    /// heads as in `Mat`).
-    Dec,
-    /// Confrontation. The principals are an equation and a negated equation, both on one base type other than that of formulas. One
-    /// alternative says that both sides of the first differ from the left side of the second, the other that both differ from its right
-    /// side (Brown and Smolka 2010, CON).
-    Con,
-    /// Choice. There is no principal, and the rule takes a predicate. One alternative says that it holds nowhere, the other that it holds
-    /// of what it chooses (Backes and Brown 2011, the rule for choice; here for each predicate).
-    Cho,
-    /// Description. There is no principal, and the rule takes a predicate. One alternative says that it holds nowhere, the second denies
-    /// that it holds at most once, and the third says that it holds of what it describes (the form is this project's own).
-    Des,
-    /// Cut. There is no principal, and the rule takes a literal. One alternative has the literal, the other its negation (this project's
-    /// own).
-    Cut,
-}
-
-/// A rule with its principals in their order, or the literal of a cut, and with the term that it takes.
-#[derive(Clone, Copy)]
-pub struct BankUse {
-    pub kind: RuleKind,
-    pub first: Option<SatLit>,
-    pub second: Option<SatLit>,
-    pub term: Option<Id>,
-}
+/// A rule with its principals in their order, the term that it takes, or the literal of a cut.
+pub type BankUse = RuleUse<SatLit, Id, SatLit>;
 
 /// A list of literals.
 #[derive(Drop)]

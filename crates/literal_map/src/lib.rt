@@ -6,7 +6,7 @@ mod law;
 mod table;
 mod unsigned;
 
-pub use instance::{BankUse, Instance, LitList, LitLists, RuleKind};
+pub use instance::{BankUse, Instance, LitList, LitLists};
 pub use law::literals_stay;
 pub use table::LitTable;
 pub use unsigned::{SignedAtom, atom_of};

@@ -1,76 +1,27 @@
 -- No line of a tree over right instances is a cut.
-use Rattle.std.proofs.Common.{◌≡◌, ◌+◌, ℕ, false, List, [], ◌∷◌, ◌++◌, map, refl, ◌∙◌}
-use Rattle.std.specs.List.{All}
+use Rattle.std.proofs.Common.{◌≡◌, ◌+◌, ℕ, false, List, [], ◌∷◌, map, refl, ◌∙◌}
 use Rattle.std.proofs.lemmas.List.Elements.{All-append, All-cons, All-nil}
 use Rattle.stt_core.specs.Lambda.{Lambda}
 use Rattle.stt_core.specs.Typing.{Scope}
 use Rattle.tableau_calculus.specs.Witnesses.{Row}
-use Rattle.tableau_calculus.specs.declared.refutation.RuleUse.{RuleUse}
-use Rattle.tableau_calculus.specs.declared.refutation.RuleUse.TheVariants.{False, Close, Refl, ImpPos, ImpNeg, BoolPos, BoolNeg, FunPos, FunNeg, AllPos, AllNeg, Mat, Dec, Con, Cho, Des, Cut}
+use Rattle.tableau_calculus.specs.Rules.{PlainRule}
+use Rattle.tableau_calculus.specs.declared.rule_use.RuleUse.TheVariants.{AtOne, AtTwo, AllPos}
 use Rattle.tableau_calculus.specs.declared.refutation.Line.{Line}
 use Rattle.sat_base.specs.declared.literal.SatLit.{SatLit}
 use Rattle.tableau_calculus.specs.Kinds.{added}
 use Rattle.search_spec.specs.Numbered.{numbers}
 use Rattle.rebuild_spec.specs.Stands.{rule_at_places, place_in}
-use Rattle.plain_tableau.specs.Trees.{TreeInstance, PlainTree, closed, node, PlainTrees, none, more, nodes_in}
+use Rattle.plain_tableau.specs.Trees.{PlainTree, closed, node, PlainTrees, none, more, nodes_in}
 use Rattle.plain_tableau.specs.Lines.{tree_children, node_line, lines_for_tree, lines_for_trees}
-use Rattle.tableau_calculus.specs.CutFree.{is_cut_use}
-use Rattle.tableau_calculus.specs.CutFree.{HasNoCut}
+use Rattle.tableau_calculus.specs.CutFree.{is_cut_use, HasNoCut}
 use Rattle.plain_tableau.proofs.GrownLaws.{IsGrown, AreGrown}
 
 -- a rule at other places is a cut where it is
-placed_cut : (rule : RuleUse) (is : List ℕ) → is_cut_use (rule_at_places rule is) ≡ is_cut_use rule
-placed_cut (False k) [] = refl
-placed_cut (False k) (i ∷ []) = refl
-placed_cut (False k) (i ∷ j ∷ is) = refl
-placed_cut (Close k m) [] = refl
-placed_cut (Close k m) (i ∷ []) = refl
-placed_cut (Close k m) (i ∷ j ∷ is) = refl
-placed_cut (Refl k) [] = refl
-placed_cut (Refl k) (i ∷ []) = refl
-placed_cut (Refl k) (i ∷ j ∷ is) = refl
-placed_cut (ImpPos k) [] = refl
-placed_cut (ImpPos k) (i ∷ []) = refl
-placed_cut (ImpPos k) (i ∷ j ∷ is) = refl
-placed_cut (ImpNeg k) [] = refl
-placed_cut (ImpNeg k) (i ∷ []) = refl
-placed_cut (ImpNeg k) (i ∷ j ∷ is) = refl
-placed_cut (BoolPos k) [] = refl
-placed_cut (BoolPos k) (i ∷ []) = refl
-placed_cut (BoolPos k) (i ∷ j ∷ is) = refl
-placed_cut (BoolNeg k) [] = refl
-placed_cut (BoolNeg k) (i ∷ []) = refl
-placed_cut (BoolNeg k) (i ∷ j ∷ is) = refl
-placed_cut (FunPos k) [] = refl
-placed_cut (FunPos k) (i ∷ []) = refl
-placed_cut (FunPos k) (i ∷ j ∷ is) = refl
-placed_cut (FunNeg k) [] = refl
-placed_cut (FunNeg k) (i ∷ []) = refl
-placed_cut (FunNeg k) (i ∷ j ∷ is) = refl
-placed_cut (AllPos k u) [] = refl
-placed_cut (AllPos k u) (i ∷ []) = refl
-placed_cut (AllPos k u) (i ∷ j ∷ is) = refl
-placed_cut (AllNeg k) [] = refl
-placed_cut (AllNeg k) (i ∷ []) = refl
-placed_cut (AllNeg k) (i ∷ j ∷ is) = refl
-placed_cut (Mat k m) [] = refl
-placed_cut (Mat k m) (i ∷ []) = refl
-placed_cut (Mat k m) (i ∷ j ∷ is) = refl
-placed_cut (Dec k) [] = refl
-placed_cut (Dec k) (i ∷ []) = refl
-placed_cut (Dec k) (i ∷ j ∷ is) = refl
-placed_cut (Con k m) [] = refl
-placed_cut (Con k m) (i ∷ []) = refl
-placed_cut (Con k m) (i ∷ j ∷ is) = refl
-placed_cut (Cho f) [] = refl
-placed_cut (Cho f) (i ∷ []) = refl
-placed_cut (Cho f) (i ∷ j ∷ is) = refl
-placed_cut (Des f) [] = refl
-placed_cut (Des f) (i ∷ []) = refl
-placed_cut (Des f) (i ∷ j ∷ is) = refl
-placed_cut (Cut l) [] = refl
-placed_cut (Cut l) (i ∷ []) = refl
-placed_cut (Cut l) (i ∷ j ∷ is) = refl
+placed_cut : (rule : PlainRule) (is : List ℕ) → is_cut_use (rule_at_places rule is) ≡ is_cut_use rule
+placed_cut (AtOne k p) (i ∷ is) = refl
+placed_cut (AtTwo k p q) (i ∷ j ∷ is) = refl
+placed_cut (AllPos p u) (i ∷ is) = refl
+placed_cut rule is = refl
 
 module _ (scope : Scope) (rows : List Row) (atoms : List Lambda) where
   mutual

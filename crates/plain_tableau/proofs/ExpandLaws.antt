@@ -97,7 +97,7 @@ module _ (b : Content) (atoms : List ℕ) (rows : List Row) (t : Table) where
   usable_over k i u e = let there = u.there in let same : u.instance ≡ i = cc in subst (IsInstanceOver b atoms rows) same u.over
 
   pub good_use : (k : ℕ) (i : BankInstance) → IsUsable b atoms rows t k → slice_get (the_instances t) k ≡ Some i → IsGoodUse b atoms i.by
-  good_use k i u e = let h = usable_over k i u e in record { rule = h.rule; is = h.is_rule; term = h.term; literal = h.first }
+  good_use k i u e = (usable_over k i u e).takes
 
 pub alternative_over : (n : ℕ) (xs : List (List SatLit)) (k : ℕ) (a : List SatLit) → All (IsOver n) xs → slice_get xs k ≡ Some a → IsOver n a
 alternative_over n [] k a h e = cc

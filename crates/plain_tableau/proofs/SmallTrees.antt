@@ -9,9 +9,7 @@ use Rattle.stt_core.specs.Typing.{Scope}
 use Rattle.tableau_calculus.specs.Literals.{Literal, opposite, as_literal}
 use Rattle.tableau_calculus.specs.Witnesses.{Row, with_rows}
 use Rattle.tableau_calculus.specs.Kinds.{added}
-use Rattle.tableau_calculus.specs.Rules.{differ_each, Rule, false_rule, close_rule, refl_rule, imp_pos_rule, imp_neg_rule, bool_pos_rule, bool_neg_rule, fun_pos_rule, fun_neg_rule, all_pos_rule, all_neg_rule, mat_rule, dec_rule, con_rule, cho_rule, des_rule, cut_rule}
-use Rattle.tableau_calculus.specs.declared.refutation.RuleUse.{RuleUse}
-use Rattle.tableau_calculus.specs.declared.refutation.RuleUse.TheVariants.{False}
+use Rattle.tableau_calculus.specs.Rules.{PlainRule, differ_each, Rule, false_rule, close_rule, refl_rule, imp_pos_rule, imp_neg_rule, bool_pos_rule, bool_neg_rule, fun_pos_rule, fun_neg_rule, all_pos_rule, all_neg_rule, mat_rule, dec_rule, con_rule, cho_rule, des_rule, cut_rule}
 use Rattle.tableau_calculus.specs.declared.refutation.Child.{Child}
 use Rattle.tableau_calculus.specs.declared.refutation.Line.{Line}
 use Rattle.tableau_calculus.specs.declared.refutation.Refutation.{Refutation}
@@ -30,6 +28,7 @@ use Rattle.witness_names.specs.Rows.{rows_of}
 use Rattle.tableau_clauses.specs.declared.origin.Origin.{Origin}
 use Rattle.tableau_clauses.specs.declared.origin.Origin.TheVariants.{Start, Instance as From}
 use Rattle.tableau_clauses.specs.Table.{Step, Table, ComesFromOrigin, EachComes, the_instances, units_in, start_units}
+use Rattle.tableau_rules.specs.Uses.{use_of}
 use Rattle.refute_print.specs.Sizes.{IsSmallTerm, AreSmallLiterals, IsSmall}
 use Rattle.rebuild_spec.specs.Input.{Sourced, literals_of, Input}
 use Rattle.rebuild_spec.specs.Stands.{rule_at_places, place_in}
@@ -160,7 +159,7 @@ crossed a s t u v h k = (
 )
 
 -- where the principals and a literal from each alternative are small, all literals of the alternatives are
-rule_small : (scope : Scope) (rows : List Row) (rule : RuleUse) (ps : List Literal) (as' : List (List Literal)) → Rule scope rows rule ps as' → (picked : List Literal) → PicksLiterals picked as' → Each HasSmall ps → Each HasSmall picked → Each (Each HasSmall) as'
+rule_small : (scope : Scope) (rows : List Row) (rule : PlainRule) (ps : List Literal) (as' : List (List Literal)) → Rule scope rows rule ps as' → (picked : List Literal) → PicksLiterals picked as' → Each HasSmall ps → Each HasSmall picked → Each (Each HasSmall) as'
 rule_small scope rows rule ps as' (false_rule i) picked picks h k = tt
 rule_small scope rows rule ps as' (close_rule i j l) picked picks h k = tt
 rule_small scope rows rule ps as' (refl_rule i a s) picked picks h k = tt
@@ -208,7 +207,7 @@ module _ (atoms : List Lambda) where
   unnegated (l ∷ ls) h = (h.0, unnegated ls h.1)
 
   -- the alternatives of an instance one of whose clauses is small
-  alternatives_small : (scope : Scope) (rows : List Row) (rule : RuleUse) (principals : List SatLit) (as' : List (List SatLit)) (clause : List SatLit) → Rule scope rows rule (literals_of atoms principals) (map (literals_of atoms) as') → Contains (instance_clauses numbers principals as') clause → Each Small clause → Each (Each Small) as'
+  alternatives_small : (scope : Scope) (rows : List Row) (rule : PlainRule) (principals : List SatLit) (as' : List (List SatLit)) (clause : List SatLit) → Rule scope rows rule (literals_of atoms principals) (map (literals_of atoms) as') → Contains (instance_clauses numbers principals as') clause → Each Small clause → Each (Each Small) as'
   alternatives_small scope rows rule principals as' clause fits held small =
       let is = clause_picked principals as' clause held in
       let whole = once_each Small (map negated principals ++ is.picked) (subst (Each Small) is.is small) in
@@ -334,7 +333,7 @@ module _ (b : Content) (atoms witnesses : List ℕ) (t : Table) (log : List LogE
       subst (AddsSmall A) (sym is)
       (record {
         takes = subst (λ (i : TreeInstance SatLit). TakesSmall i.rule) is source.1;
-        alternatives = alternatives_small A _ (rows_of b.terms witnesses) over.rule from.0.principals from.0.alternatives s.0.0 over.fits from.2 source.0;
+        alternatives = alternatives_small A _ (rows_of b.terms witnesses) (use_of b.terms atoms from.0.by) from.0.principals from.0.alternatives s.0.0 over.fits from.2 source.0;
       })
 
   all_used_small : All (IsInstanceOver b atoms (rows_of b.terms witnesses)) (the_instances t) → (used : List ℕ) → ((k : ℕ) → Contains used k → IsUsedInstance t log k) → Each (AddsSmall A) (the_used b.terms atoms t used)

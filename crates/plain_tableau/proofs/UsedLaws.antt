@@ -1,7 +1,6 @@
 -- The instances that a log uses may be used: none of them is a cut.
-use Rattle.std.proofs.Common.{◌≡◌, ◌<◌, ◌+◌, ◌&&◌, ◌||◌, ℕ, zero, suc, Bool, true, false, List, [], ◌∷◌, length, map, get_or, Option, Some, None, option_map, slice_get, Contains, refl, sym, ap, ap₂, ◌∙◌, subst, arith}
+use Rattle.std.proofs.Common.{◌≡◌, ◌<◌, ℕ, zero, suc, Bool, true, false, List, [], ◌∷◌, length, map, get_or, Some, option_map, slice_get, Contains, refl, sym, ap, ap₂, ◌∙◌, subst, arith}
 use Rattle.std.specs.List.{All}
-use Rattle.std.proofs.lemmas.Bool.{false≢true}
 use Rattle.std.proofs.lemmas.List.{length-map}
 use Rattle.std.proofs.lemmas.Option.{slice_get-get_or, slice_get-map, get_or_from_slice_get}
 use Rattle.stt_core.specs.Lambda.{Lambda, constant, falsity}
@@ -10,28 +9,27 @@ use Rattle.stt_core.specs.Typing.{Scope}
 use Rattle.stt_core.proofs.SameTerms.{same_term-of}
 use Rattle.tableau_calculus.specs.Literals.{Literal, opposite}
 use Rattle.tableau_calculus.specs.Witnesses.{Row}
-use Rattle.tableau_calculus.specs.Rules.{Rule, false_rule, close_rule, refl_rule, imp_pos_rule, imp_neg_rule, bool_pos_rule, bool_neg_rule, fun_pos_rule, fun_neg_rule, all_pos_rule, all_neg_rule, mat_rule, dec_rule, con_rule, cho_rule, des_rule, cut_rule}
-use Rattle.tableau_calculus.specs.declared.refutation.RuleUse.{RuleUse}
-use Rattle.tableau_calculus.specs.declared.refutation.RuleUse.TheVariants.{Cut}
+use Rattle.tableau_calculus.specs.CutFree.{is_cut_use}
+use Rattle.tableau_calculus.specs.Rules.{PlainRule, Rule, cut_rule}
+use Rattle.tableau_calculus.specs.declared.rule_use.RuleUse.TheVariants.{Cut}
 use Rattle.sat_base.specs.declared.literal.SatLit.{SatLit}
 use Rattle.sat_base.specs.Literal.{IsOver}
 use Rattle.sat_log.specs.declared.log.LogEntry.{LogEntry}
 use Rattle.search_spec.specs.Clauses.{instance_clauses}
 use Rattle.search_spec.specs.Each.{Each}
-use Rattle.search_spec.specs.Numbered.{numbers, atom_at, literal_at, IsNumber, AreApart}
+use Rattle.search_spec.specs.Numbered.{numbers, literal_at, IsNumber, AreApart}
 use Rattle.tableau_calculus.specs.Kinds.{formulas}
 use Rattle.search_spec.proofs.NamingLaws.{instance_clauses-mapped}
 use Rattle.search_spec.proofs.UnsatLaws.{numbers_stand}
 use Rattle.term_bank.specs.Content.{Content}
 use Rattle.term_bank.specs.Laws.{EqualIdsForEqualTerms}
 use Rattle.term_bank.specs.Terms.{term_at}
-use Rattle.literal_map.specs.Atoms.{IsAtom}
+use Rattle.literal_map.specs.Atoms.{bank_literal, IsAtom}
+use Rattle.literal_map.specs.Numbers.{UseByNumbers}
 use Rattle.literal_map.specs.declared.instance.Instance.{Instance as BankInstance}
-use Rattle.literal_map.specs.declared.instance.RuleKind.{RuleKind}
-use Rattle.literal_map.specs.declared.instance.RuleKind.TheVariants as kind
 use Rattle.tableau_clauses.specs.declared.origin.Origin.TheVariants.{Instance as From}
 use Rattle.tableau_clauses.specs.Table.{Table, ComesFromOrigin, EachComes, the_instances}
-use Rattle.tableau_rules.specs.Uses.{rule_of, use_of, is_cut as is_cut_kind}
+use Rattle.tableau_rules.specs.Uses.{use_of}
 use Rattle.rebuild_spec.specs.Input.{literals_of}
 use Rattle.tableau_rebuild.specs.Tables.{atoms_at}
 use Rattle.tableau_rebuild.specs.Conditions.{IsInstanceOver}
@@ -59,50 +57,10 @@ no_clause l = by_sign l.positive l.atom
     by_sign true t = let e : same_term t t ≡ true = same_term-of t t refl in rw e
     by_sign false t = let e : same_term t t ≡ true = same_term-of t t refl in rw e
 
-rule_is_cut : (k : RuleKind) (f s : Option Literal) (t : Option Lambda) (r : RuleUse) → rule_of k f s t ≡ Some r → is_cut_kind k ≡ true → (l : Literal) × (r ≡ Cut l)
-rule_is_cut kind.False f s t r e h = absurd (false≢true h)
-rule_is_cut kind.Close f s t r e h = absurd (false≢true h)
-rule_is_cut kind.Refl f s t r e h = absurd (false≢true h)
-rule_is_cut kind.ImpPos f s t r e h = absurd (false≢true h)
-rule_is_cut kind.ImpNeg f s t r e h = absurd (false≢true h)
-rule_is_cut kind.BoolPos f s t r e h = absurd (false≢true h)
-rule_is_cut kind.BoolNeg f s t r e h = absurd (false≢true h)
-rule_is_cut kind.FunPos f s t r e h = absurd (false≢true h)
-rule_is_cut kind.FunNeg f s t r e h = absurd (false≢true h)
-rule_is_cut kind.AllPos f s t r e h = absurd (false≢true h)
-rule_is_cut kind.AllNeg f s t r e h = absurd (false≢true h)
-rule_is_cut kind.Mat f s t r e h = absurd (false≢true h)
-rule_is_cut kind.Dec f s t r e h = absurd (false≢true h)
-rule_is_cut kind.Con f s t r e h = absurd (false≢true h)
-rule_is_cut kind.Cho f s t r e h = absurd (false≢true h)
-rule_is_cut kind.Des f s t r e h = absurd (false≢true h)
-rule_is_cut kind.Cut (Some l) (Some k) (Some u) r e h = cc
-rule_is_cut kind.Cut (Some l) (Some k) None r e h = cc
-rule_is_cut kind.Cut (Some l) None (Some u) r e h = cc
-rule_is_cut kind.Cut (Some l) None None r e h = let same : r ≡ Cut l = cc in (l, same)
-rule_is_cut kind.Cut None (Some k) (Some u) r e h = cc
-rule_is_cut kind.Cut None (Some k) None r e h = cc
-rule_is_cut kind.Cut None None (Some u) r e h = cc
-rule_is_cut kind.Cut None None None r e h = cc
-
-cut_shape : (scope : Scope) (rows : List Row) (l : Literal) (rule : RuleUse) (ps : List Literal) (as' : List (List Literal)) → Rule scope rows rule ps as' → rule ≡ Cut l → (k : Literal) × (ps ≡ []) × (as' ≡ (k ∷ []) ∷ (opposite k ∷ []) ∷ [])
-cut_shape scope rows l rule ps as' (false_rule i) e = cc
-cut_shape scope rows l rule ps as' (close_rule i j l') e = cc
-cut_shape scope rows l rule ps as' (refl_rule i a s) e = cc
-cut_shape scope rows l rule ps as' (imp_pos_rule i s t) e = cc
-cut_shape scope rows l rule ps as' (imp_neg_rule i s t) e = cc
-cut_shape scope rows l rule ps as' (bool_pos_rule i s t) e = cc
-cut_shape scope rows l rule ps as' (bool_neg_rule i s t) e = cc
-cut_shape scope rows l rule ps as' (fun_pos_rule i a b s t) e = cc
-cut_shape scope rows l rule ps as' (fun_neg_rule i a b s t) e = cc
-cut_shape scope rows l rule ps as' (all_pos_rule i a f u h) e = cc
-cut_shape scope rows l rule ps as' (all_neg_rule i k a f h) e = cc
-cut_shape scope rows l rule ps as' (mat_rule i j c a s t ss ts h0 h1) e = cc
-cut_shape scope rows l rule ps as' (dec_rule i m c a s t ss ts h0 h1) e = cc
-cut_shape scope rows l rule ps as' (con_rule i j m s t u v) e = cc
-cut_shape scope rows l rule ps as' (cho_rule a f h) e = cc
-cut_shape scope rows l rule ps as' (des_rule a f h) e = cc
+-- the alternatives of a cut
+cut_shape : (scope : Scope) (rows : List Row) (l : Literal) (rule : PlainRule) (ps : List Literal) (as' : List (List Literal)) → Rule scope rows rule ps as' → rule ≡ Cut l → (k : Literal) × (ps ≡ []) × (as' ≡ (k ∷ []) ∷ (opposite k ∷ []) ∷ [])
 cut_shape scope rows l rule ps as' (cut_rule k h) e = (k, refl, refl)
+cut_shape scope rows l rule ps as' fits e = cc
 
 no_lists : {A B : Type 0} (f : A → B) (xs : List A) → map f xs ≡ [] → xs ≡ []
 no_lists f [] h = refl
@@ -123,21 +81,20 @@ module _ (b : Content) (atoms : List ℕ) (rows : List Row) (good : All (IsAtom 
   lists_numbers : (as' : List (List SatLit)) → All (IsOver (length atoms)) as' → Each (Each (IsNumber (atoms_at b.terms atoms))) as'
   lists_numbers as' h = each_all (Each (IsNumber (atoms_at b.terms atoms))) as' (λ k d l. over_numbers (get_or as' k d) (h k d l))
 
-  no_cut_used : (i : BankInstance) → IsInstanceOver b atoms rows i → (c : List SatLit) → Contains (instance_clauses numbers i.principals i.alternatives) c → is_cut_kind i.by.kind ≡ false
-  no_cut_used i over c held = go (is_cut_kind i.by.kind) refl
+  no_cut_used : (i : BankInstance) → IsInstanceOver b atoms rows i → (c : List SatLit) → Contains (instance_clauses numbers i.principals i.alternatives) c → is_cut_use i.by ≡ false
+  no_cut_used i over c held = go i.by refl
     where
-      go : (x : Bool) → is_cut_kind i.by.kind ≡ x → x ≡ false
-      go false e = refl
-      go true e =
+      nothing : Contains {X = List SatLit} [] c → ⊥
+      nothing h = omega (arith, h.1)
+
+      go : (by : UseByNumbers) → i.by ≡ by → is_cut_use by ≡ false
+      go (Cut l) e =
           let A = atoms_at b.terms atoms in
-          let cut = rule_is_cut i.by.kind _ _ _ over.rule over.is_rule e in
-          let shape = cut_shape _ rows cut.0 over.rule (literals_of A i.principals) (map (literals_of A) i.alternatives) over.fits cut.1 in
+          let shape = cut_shape _ rows (bank_literal b.terms atoms l) (use_of b.terms atoms i.by) (literals_of A i.principals) (map (literals_of A) i.alternatives) over.fits (ap (use_of b.terms atoms) e) in
           let clauses = sym (instance_clauses-mapped numbers formulas (IsNumber A) (literal_at A) (numbers_stand A apart) i.principals i.alternatives (over_numbers i.principals over.principals) (lists_numbers i.alternatives over.alternatives)) in
           let none = no_lists (map (literal_at A)) (instance_clauses numbers i.principals i.alternatives) (clauses ∙ ap₂ (instance_clauses formulas) shape.1 shape.2 ∙ no_clause shape.0) in
           absurd (nothing (subst (λ cs. Contains cs c) none held))
-        where
-          nothing : Contains {X = List SatLit} [] c → ⊥
-          nothing h = omega (arith, h.1)
+      go by e = refl
 
   pub used_usable : (t : Table) (log : List LogEntry) → EachComes t → All (IsInstanceOver b atoms rows) (the_instances t) → (k : ℕ) → IsUsedInstance t log k → IsUsable b atoms rows t k
   used_usable t log comes instances k used =

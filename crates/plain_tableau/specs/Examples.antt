@@ -1,9 +1,10 @@
 -- Worked examples: what is used, and the trees that it expands to.
-use Rattle.std.specs.Prelude.{◌≡◌, ℕ, List, [], ◌∷◌}
+use Rattle.std.specs.Prelude.{List, [], ◌∷◌}
 use Rattle.stt_core.specs.Lambda.{witness, Lambda, bound, constant, lam, eq, every}
 use Rattle.tableau_calculus.specs.Literals.{plus, minus}
 use Rattle.tableau_calculus.specs.Witnesses.{Row}
-use Rattle.tableau_calculus.specs.declared.refutation.RuleUse.TheVariants.{Refl, FunNeg, AllNeg}
+use Rattle.tableau_calculus.specs.declared.rule_use.RuleUse.TheVariants.{AtOne}
+use Rattle.tableau_calculus.specs.declared.rule_use.OnePlace.TheVariants.{Refl, FunNeg, AllNeg}
 use Rattle.tableau_calculus.specs.declared.refutation.Child.TheVariants.{Closed, Line as Numbered}
 use Rattle.tableau_calculus.specs.declared.refutation.Line.{Line}
 use Rattle.tableau_calculus.specs.declared.refutation.Refutation.{Refutation}
@@ -28,10 +29,10 @@ abbrev pub self_rows : List Row
 self_rows = record { type = individual_type; predicate = self_predicate } ∷ []
 
 abbrev pub self_i0 : TreeInstance SatLit
-self_i0 = record { rule = AllNeg 0; principals = no 0 ∷ []; alternatives = (no 1 ∷ []) ∷ [] }
+self_i0 = record { rule = AtOne AllNeg 0; principals = no 0 ∷ []; alternatives = (no 1 ∷ []) ∷ [] }
 
 abbrev pub self_i1 : TreeInstance SatLit
-self_i1 = record { rule = Refl 0; principals = no 1 ∷ []; alternatives = [] }
+self_i1 = record { rule = AtOne Refl 0; principals = no 1 ∷ []; alternatives = [] }
 
 abbrev pub self_used : List (TreeInstance SatLit)
 self_used = self_i0 ∷ self_i1 ∷ []
@@ -40,7 +41,7 @@ abbrev pub self_tree : PlainTree SatLit
 self_tree = node self_i0 (no 0 ∷ []) (more (node self_i1 (no 0 ∷ no 1 ∷ []) none) none)
 
 abbrev pub self_lines : List Line
-self_lines = record { branch = minus self_a0 ∷ minus self_a1 ∷ []; rule = Refl 1; children = [] } ∷ record { branch = minus self_a0 ∷ []; rule = AllNeg 0; children = Numbered 0 ∷ [] } ∷ []
+self_lines = record { branch = minus self_a0 ∷ minus self_a1 ∷ []; rule = AtOne Refl 1; children = [] } ∷ record { branch = minus self_a0 ∷ []; rule = AtOne AllNeg 0; children = Numbered 0 ∷ [] } ∷ []
 
 abbrev pub self_refutation : Refutation
 self_refutation = record { witnesses = self_rows; lines = self_lines }
@@ -55,13 +56,13 @@ SelfExpands =
 
 -- `pointwise.p`: f and g agree everywhere, with the conjecture that they are equal. One node, whose alternative is closed.
 abbrev pub pointwise_instance : TreeInstance SatLit
-pointwise_instance = record { rule = FunNeg 0; principals = no 1 ∷ []; alternatives = (no 0 ∷ []) ∷ [] }
+pointwise_instance = record { rule = AtOne FunNeg 0; principals = no 1 ∷ []; alternatives = (no 0 ∷ []) ∷ [] }
 
 abbrev pub pointwise_tree : PlainTree SatLit
 pointwise_tree = node pointwise_instance (yes 0 ∷ no 1 ∷ []) (more closed none)
 
 abbrev pub pointwise_tree_refutation : Refutation
-pointwise_tree_refutation = record { witnesses = []; lines = record { branch = plus pointwise_a0 ∷ minus pointwise_a1 ∷ []; rule = FunNeg 1; children = Closed ∷ [] } ∷ [] }
+pointwise_tree_refutation = record { witnesses = []; lines = record { branch = plus pointwise_a0 ∷ minus pointwise_a1 ∷ []; rule = AtOne FunNeg 1; children = Closed ∷ [] } ∷ [] }
 
 abbrev pub PointwiseExpands : Type 0
 PointwiseExpands =

@@ -2,7 +2,8 @@
 -- instances stand in a list, over literals of any kind.
 use Rattle.std.specs.Prelude.{◌≡◌, ◌+◌, ◌<◌, ◌≤◌, ◌&&◌, not, ℕ, suc, Bool, true, false, List, [], ◌∷◌, Option, Some, None, slice_get}
 use Rattle.std.specs.List.{list_any, list_all, position_or_len}
-use Rattle.tableau_calculus.specs.declared.refutation.RuleUse.TheVariants.{Close}
+use Rattle.tableau_calculus.specs.declared.rule_use.RuleUse.TheVariants.{AtTwo}
+use Rattle.tableau_calculus.specs.declared.rule_use.TwoPlaces.TheVariants.{Close}
 use Rattle.tableau_calculus.specs.Kinds.{Kind, has, added}
 use Rattle.plain_tableau.specs.Trees.{TreeInstance, PlainTree, closed, node, PlainTrees, none, more, nodes_in}
 
@@ -61,7 +62,7 @@ first_clash kind branch = slice_get branch (position_or_len (λ l. has kind bran
 
 -- the instance on which a literal and its negation close each other
 abbrev pub closing : {L : Type 0} → Kind L → L → TreeInstance L
-closing kind l = record { rule = Close 0 1; principals = l ∷ kind.opposite l ∷ []; alternatives = [] }
+closing kind l = record { rule = AtTwo Close 0 1; principals = l ∷ kind.opposite l ∷ []; alternatives = [] }
 
 -- what comes of a start: where it is closed itself, one node on which its first pair closes it
 pub data Expansion {L : Type 0} (kind : Kind L) (used : List (TreeInstance L)) (limit : ℕ) (start : List L) : Expanded L (PlainTree L) → Type 0 where

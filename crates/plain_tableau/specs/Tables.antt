@@ -2,6 +2,7 @@
 use Rattle.std.specs.Prelude.{◌≡◌, ◌≤◌, ℕ, false, List, [], map, length, Some, slice_get, option_map, unwrap_or}
 use Rattle.stt_core.specs.Lambda.{Lambda}
 use Rattle.tableau_calculus.specs.Witnesses.{Row}
+use Rattle.tableau_calculus.specs.CutFree.{is_cut_use}
 use Rattle.tableau_calculus.specs.declared.refutation.Refutation.{Refutation}
 use Rattle.sat_base.specs.declared.literal.SatLit.{SatLit}
 use Rattle.tableau_calculus.specs.Kinds.{added}
@@ -9,7 +10,6 @@ use Rattle.search_spec.specs.Numbered.{numbers}
 use Rattle.term_bank.specs.Content.{Content}
 use Rattle.literal_map.specs.declared.instance.Instance.{Instance as BankInstance}
 use Rattle.tableau_clauses.specs.Table.{Table, the_instances, start_units}
-use Rattle.tableau_rules.specs.Uses.{is_cut}
 use Rattle.rebuild_spec.specs.Input.{Instance as TermInstance, literals_of}
 use Rattle.tableau_rebuild.specs.Tables.{the_instance, no_instance}
 use Rattle.tableau_rebuild.specs.Conditions.{IsInstanceOver}
@@ -39,7 +39,7 @@ pub record IsUsable (b : Content) (atoms : List ℕ) (rows : List Row) (t : Tabl
   pub instance : BankInstance
   pub there : slice_get (the_instances t) k ≡ Some instance
   pub over : IsInstanceOver b atoms rows instance
-  pub no_cut : is_cut instance.by.kind ≡ false
+  pub no_cut : is_cut_use instance.by ≡ false
 
 -- The answer is what comes of the expansion: the refutation of its tree with how many nodes it has, its first open branch, or that there
 -- would be more nodes than these.

@@ -1,10 +1,10 @@
 -- Tableaux without cut, node by node, over literals of any kind.
 use Rattle.std.specs.Prelude.{◌+◌, ℕ, suc, List}
-use Rattle.tableau_calculus.specs.declared.refutation.RuleUse.{RuleUse}
+use Rattle.tableau_calculus.specs.Rules.{PlainRule}
 
 -- An instance of a rule: the rule with what it takes, whose places don't count, its principals and its alternatives.
 pub record TreeInstance (L : Type 0) : Type 0 where
-  pub rule : RuleUse
+  pub rule : PlainRule
   pub principals : List L
   pub alternatives : List (List L)
 

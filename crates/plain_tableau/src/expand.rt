@@ -1,5 +1,6 @@
 //! Trees without cut.
-ghost use Rattle.std.specs.Prelude.{◌≡◌, ◌<◌, ◌≤◌, ◌++◌, [], length, reverse, Some, None, IfOk, All};
+ghost use Rattle.std.specs.Prelude.{◌≡◌, ◌<◌, ◌≤◌, ◌++◌, [], ◌∷◌, length, reverse, slice_get, Some, None, IfOk, All};
+ghost use Rattle.sat_base.specs.declared.literal.SatLit.{SatLit};
 ghost use Rattle.sat_base.specs.Literal.{IsOver};
 ghost use Rattle.tableau_calculus.specs.Witnesses.{with_rows};
 ghost use Rattle.tableau_calculus.specs.Accepted.{IsAccepted};
@@ -12,7 +13,7 @@ ghost use Rattle.rebuild_spec.specs.Trimmed.{IsEachReached};
 ghost use Rattle.small_rebuilt.specs.Small.{AreNumbersInRange};
 ghost use Rattle.tableau_rebuild.specs.Tables.{atoms_at, unit_literals};
 ghost use Rattle.tableau_rebuild.specs.Conditions.{AreUnitsNumbered};
-ghost use Rattle.tableau_clauses.specs.Table.{start_units};
+ghost use Rattle.tableau_clauses.specs.Table.{the_clauses, start_units};
 ghost use Rattle.plain_tableau.specs.Expansion.{first_clash};
 ghost use Rattle.tableau_calculus.specs.CutFree.{HasNoCut};
 ghost use Rattle.plain_tableau.specs.Tables.{the_used, start_branch, IsUsable, IsStripped, OfTree, IsWithinLimit};
@@ -33,6 +34,15 @@ use tableau_rebuild::UsedList;
 use term_bank::Bank;
 use witness_names::Witnesses;
 
+/// The literal of a start unit.
+fn start_literal(steps: &StepTable, n: usize) -> Result<SatLit, AllocError>
+    requires { (l : SatLit) × (slice_get (the_clauses steps.now) n ≡ Some (l ∷ [])) }
+    ensures { IfOk result (λ l. slice_get (the_clauses steps.now) n ≡ Some (l ∷ [])) }
+{
+    let clause = steps.clause(n)?;
+    Ok(clause.as_slice()[0])
+}
+
 /// The literals of the start units, in order.
 fn start_literals(alloc: Global, steps: &StepTable) -> Result<Vec<SatLit>, AllocError>
     ensures { IfOk result (λ units. units.items ≡ start_units steps.now.0) }
@@ -41,7 +51,7 @@ fn start_literals(alloc: Global, steps: &StepTable) -> Result<Vec<SatLit>, Alloc
     let mut units = Vec::new(alloc);
     for n in 0..steps.len() {
         match steps.origin(n) {
-            Origin::Start => units.push(steps.clause(n).as_slice()[0])?,
+            Origin::Start => units.push(start_literal(steps, n)?)?,
             Origin::Instance(_) => {}
         }
     }

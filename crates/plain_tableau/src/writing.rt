@@ -18,10 +18,10 @@ ghost use Rattle.plain_tableau.specs.Tables.{expanded};
 ghost use Rattle.plain_tableau.specs.Internal.Writing.{IsWriting};
 
 use literal_map::{Instance, LitTable};
-use refute_share::{SharedLine, SharedLines, SharedLits, SharedRefutation, SharedRule};
+use refute_share::{SharedLine, SharedLines, SharedLits, SharedRefutation};
 use sat_base::SatLit;
 use std::alloc::{AllocError, Global};
-use tableau_calculus::Children;
+use tableau_calculus::{Children, RuleUse, TwoPlaces};
 use tableau_rebuild::{
     Pool, line_in_range, lits_of, places_of, position, rows_for_branch, rows_for_instance, rule_of,
     write_rows,
@@ -80,7 +80,11 @@ fn closing_line(
     ensures line { IfOk result (λ line. line ≡ node_line (atoms_at bank.now.terms atoms.now) (closing numbers lit) branch.now []) }
 {
     let literals = lits_of(alloc, bank, atoms, branch, pool)?;
-    let rule = SharedRule::Close(position(branch, lit), position(branch, lit.negated()));
+    let rule = RuleUse::AtTwo(
+        TwoPlaces::Close,
+        position(branch, lit),
+        position(branch, lit.negated()),
+    );
     Ok(SharedLine {
         branch: literals,
         rule,

@@ -1,7 +1,6 @@
 -- The instance of the rule for a predicate that doesn't hold everywhere, and the row of its witness.
-use Rattle.std.specs.Prelude.{◌≡◌, ◌≢◌, ◌≤◌, ◌&&◌, nat_eq, ℕ, suc, Bool, true, false, List, [], ◌∷◌, ◌++◌, map, length, slice_get, Option, Some, None, refl, if◌then◌else◌}
+use Rattle.std.specs.Prelude.{◌≡◌, ◌≤◌, ◌&&◌, nat_eq, ℕ, suc, Bool, true, false, List, [], ◌∷◌, ◌++◌, map, length, slice_get, Some, refl, if◌then◌else◌}
 use Rattle.std.specs.List.{list_any, position_or_len}
-use Rattle.std.specs.Option.{ForSome}
 use Rattle.std.proofs.Common.{sym, ap, ap₂, subst, ◌∙◌, arith, append-nil, length-append}
 use Rattle.std.proofs.lemmas.List.{length-map}
 use Rattle.stt_core.specs.SimpleType.{SimpleType, predicate, formula, same_type}
@@ -15,8 +14,10 @@ use Rattle.stt_core.proofs.TypeLaws.{same_type_refl}
 use Rattle.tableau_calculus.specs.Literals.{Literal, minus}
 use Rattle.tableau_calculus.specs.Rules.{all_neg_rule, IsInstance, all_neg}
 use Rattle.tableau_calculus.specs.Witnesses.{Row}
-use Rattle.tableau_calculus.specs.declared.refutation.RuleUse.{RuleUse}
-use Rattle.tableau_calculus.specs.declared.refutation.RuleUse.TheVariants.{AllNeg}
+use Rattle.tableau_calculus.specs.CutFree.{is_cut_use}
+use Rattle.tableau_calculus.specs.RuleUses.{principals_of, EachPart}
+use Rattle.tableau_calculus.specs.declared.rule_use.OnePlace.TheVariants.{AllNeg}
+use Rattle.tableau_calculus.specs.declared.rule_use.RuleUse.TheVariants.{AtOne}
 use Rattle.tableau_calculus.proofs.FunctionLaws.{every_canonical}
 use Rattle.tableau_calculus.proofs.InstanceLaws.{AreDistinct, one_instance}
 use Rattle.sat_base.specs.declared.literal.SatLit.{SatLit}
@@ -24,12 +25,11 @@ use Rattle.term_bank.specs.Content.{Content, content_scope}
 use Rattle.term_bank.specs.Laws.{EqualIdsForEqualTerms}
 use Rattle.term_bank.specs.Terms.{term_at}
 use Rattle.literal_map.specs.Atoms.{bank_literal, Begins}
-use Rattle.literal_map.specs.declared.instance.BankUse.{BankUse}
+use Rattle.literal_map.specs.Numbers.{UseByNumbers}
 use Rattle.literal_map.specs.declared.instance.Instance.{Instance}
-use Rattle.literal_map.specs.declared.instance.RuleKind.TheVariants as kind
 use Rattle.witness_names.specs.Rows.{binder_of, row_of, rows_of, with_predicate}
 use Rattle.tableau_rules.specs.Changes.{Widens, HasWitness}
-use Rattle.tableau_rules.specs.Uses.{principals_of, IsInstanceBy}
+use Rattle.tableau_rules.specs.Uses.{IsInstanceBy}
 use Rattle.refute_print.specs.Sizes.{IsSmallTerm}
 use Rattle.search_spec.specs.Each.{Each}
 use Rattle.search_spec.specs.Witness.{same_row, witness_of}
@@ -48,8 +48,8 @@ use Rattle.prover_state.proofs.RowLaws.{table-distinct}
 use Rattle.prover_growth.proofs.WidenLaws.{rows-stay}
 
 -- what the rule takes
-abbrev pub denial_use : SatLit → BankUse
-denial_use lit = record { kind = kind.AllNeg; first = Some lit; second = None; term = None }
+abbrev pub denial_use : SatLit → UseByNumbers
+denial_use lit = AtOne AllNeg lit
 
 abbrev pub denied_row : SimpleType → Lambda → Row
 denied_row a f = record { type = a; predicate = f }
@@ -76,28 +76,20 @@ rows-length g = length-map g.witnesses (λ id. row_of (term_at g.bank.terms id))
 -- INSTANCES
 
 module _ (scope : Scope) (rows : List Row) (l : Literal) (a : SimpleType) (f : Lambda) (k : ℕ) (denies : l ≡ minus (every a f)) (at : slice_get rows k ≡ Some (denied_row a f)) where
-  pub denial-instance : IsInstance scope rows (l ∷ []) (AllNeg 0) (all_neg a f (constant (witness k)))
+  pub denial-instance : IsInstance scope rows (l ∷ []) (AtOne AllNeg 0) (all_neg a f (constant (witness k)))
   denial-instance = record { principals = minus (every a f) ∷ []; at_places = (ap Some denies, tt); fits = all_neg_rule 0 k a f at }
 
-  pub denial-alternatives : AreDistinct rows → (as' : List (List Literal)) → IsInstance scope rows (l ∷ []) (AllNeg 0) as' → as' ≡ all_neg a f (constant (witness k))
-  denial-alternatives distinct as' h = one_instance scope rows distinct (l ∷ []) (AllNeg 0) as' (all_neg a f (constant (witness k))) h denial-instance
+  pub denial-alternatives : AreDistinct rows → (as' : List (List Literal)) → IsInstance scope rows (l ∷ []) (AtOne AllNeg 0) as' → as' ≡ all_neg a f (constant (witness k))
+  denial-alternatives distinct as' h = one_instance scope rows distinct (l ∷ []) (AtOne AllNeg 0) as' (all_neg a f (constant (witness k))) h denial-instance
 
 -- the rule is one for the literal
 pub denial-fits : (b : Content) (atoms : List ℕ) (lit : SatLit) (a : SimpleType) (f : Lambda) → bank_literal b.terms atoms lit ≡ minus (every a f) → IsInstanceBy b atoms (denied_row a f ∷ []) (denial_use lit) (all_neg a f (constant (witness 0)))
-denial-fits b atoms lit a f denies = record {
-  rule = AllNeg 0;
-  is_rule = refl;
-  is_instance = denial-instance (content_scope b) (denied_row a f ∷ []) (bank_literal b.terms atoms lit) a f 0 denies refl;
-}
-
-same_use : (u v : RuleUse) → Some u ≡ Some v → u ≡ v
-same_use u v e = cc
+denial-fits b atoms lit a f denies = denial-instance (content_scope b) (denied_row a f ∷ []) (bank_literal b.terms atoms lit) a f 0 denies refl
 
 pub alternatives-by : (b : Content) (atoms : List ℕ) (rows : List Row) (lit : SatLit) (a : SimpleType) (f : Lambda) (k : ℕ) → bank_literal b.terms atoms lit ≡ minus (every a f) → slice_get rows k ≡ Some (denied_row a f) → AreDistinct rows
     → (as' : List (List Literal)) → IsInstanceBy b atoms rows (denial_use lit) as' → as' ≡ all_neg a f (constant (witness k))
 alternatives-by b atoms rows lit a f k denies at distinct as' h =
-    denial-alternatives (content_scope b) rows (bank_literal b.terms atoms lit) a f k denies at distinct as'
-    (subst (λ u. IsInstance (content_scope b) rows (bank_literal b.terms atoms lit ∷ []) u as') (sym (same_use (AllNeg 0) h.rule h.is_rule)) h.is_instance)
+    denial-alternatives (content_scope b) rows (bank_literal b.terms atoms lit) a f k denies at distinct as' h
 
 -- names without partial terms
 abbrev plain : Basis → Naming
@@ -180,11 +172,9 @@ module _ (old new : Basis) (w : BasisWidens old new) (good : IsBasis old) (lit :
         ∙ ap (λ (b : Bool). if b then rows_in old else rows_in old ++ denied_row a f ∷ []) any_stays
 
   -- the rows after the rule
-  pub denied-rows : EqualIdsForEqualTerms new.bank → HasWitness new.bank new.lits (Some lit) old.witnesses new.witnesses → rows_in new ≡ with_row (rows_in old) (denied_row a f)
+  pub denied-rows : EqualIdsForEqualTerms new.bank → HasWitness new.bank new.lits lit old.witnesses new.witnesses → rows_in new ≡ with_row (rows_in old) (denied_row a f)
   denied-rows equal h =
-      let same : h.literal ≡ lit = cc (h.is_principal) in
-      let now : bank_literal new.bank.terms new.lits lit ≡ minus (every h.type (term_at new.bank.terms h.predicate)) = ap (bank_literal new.bank.terms new.lits) (sym same) ∙ h.denies in
-      rows-with equal h.predicate h.within (same_predicates a h.type f (term_at new.bank.terms h.predicate) (sym denies-on ∙ now)) h.added
+      rows-with equal h.predicate h.within (same_predicates a h.type f (term_at new.bank.terms h.predicate) (sym denies-on ∙ h.denies)) h.added
 
   -- the alternatives of the rule
   pub denied-alternatives : IsBasis new → rows_in new ≡ with_row (rows_in old) (denied_row a f) → (as' : List (List Literal)) → IsInstanceBy new.bank new.lits (rows_in new) (denial_use lit) as' → as' ≡ all_neg a f (witness_of (rows_in old) (denied_row a f))
@@ -194,13 +184,6 @@ module _ (old new : Basis) (w : BasisWidens old new) (good : IsBasis old) (lit :
       (table-distinct (content_scope new.bank) (rows_in new) better.rows.table) as' h
 
 -- WHAT BECOMES OF A BASIS
-
-one_of : (x y : SatLit) → Some x ≡ Some y → x ≡ y
-one_of x y h = cc
-
--- the literal that the rule takes has a number
-pub taken-first : (atoms : List ℕ) (lit : SatLit) → IsNumberIn atoms lit → ForSome (Some lit) (IsNumberIn atoms)
-taken-first atoms lit h = λ l e. subst (IsNumberIn atoms) (one_of lit l e) h
 
 pub predicates-longer : (ids new : List ℕ) (id : ℕ) → new ≡ with_predicate ids id → Longer ids new × (length new ≤ suc (length ids))
 predicates-longer ids new id e = subst P (sym e) (by_test (list_any (nat_eq id) ids))
@@ -212,27 +195,23 @@ predicates-longer ids new id e = subst P (sym e) (by_test (list_any (nat_eq id) 
     by_test true = (([], sym (append-nil ids)), omega arith)
     by_test false = ((id ∷ [], refl), let n = length-append ids (id ∷ []) in omega (arith, n))
 
-pub denial-widens : (old new : Basis) (p : Option SatLit) → Widens old.bank new.bank → Begins old.lits new.lits → HasWitness new.bank new.lits p old.witnesses new.witnesses → BasisWidens old new
-denial-widens old new p w begins h =
+pub denial-widens : (old new : Basis) (lit : SatLit) → Widens old.bank new.bank → Begins old.lits new.lits → HasWitness new.bank new.lits lit old.witnesses new.witnesses → BasisWidens old new
+denial-widens old new lit w begins h =
     let l = predicates-longer old.witnesses new.witnesses h.predicate h.added in
     record { bank = w; lits = begins; witnesses = l.0; few = l.1 }
 
 -- the instance is one of the rule with what it takes
 pub denial-made : (old new : Basis) → Begins old.lits new.lits → (lit : SatLit) → IsNumberIn old.lits lit → (i : Instance) → i.by ≡ denial_use lit → i.principals ≡ principals_of (denial_use lit) → Each (Each (IsNumberIn new.lits)) i.alternatives
     → IsInstanceBy new.bank new.lits (rows_in new) (denial_use lit) (map (map (bank_literal new.bank.terms new.lits)) i.alternatives) → IsMadeInstance new i
-denial-made old new begins lit number i e principals numbered fits = record {
+denial-made old new begins lit number i e principals listed fits = record {
   principals = principals ∙ ap principals_of (sym e);
-  first = subst (λ (b : BankUse). ForSome b.first (IsNumberIn new.lits)) (sym e) (λ l h. here l (one_of lit l h));
-  second = subst (λ (b : BankUse). ForSome b.second (IsNumberIn new.lits)) (sym e) (λ l h. none l h);
-  term = subst (λ (b : BankUse). ForSome b.term (IsPlace new.bank.terms)) (sym e) (λ u h. none u h);
-  small = subst (λ (b : BankUse). ForSome b.term (λ u. IsSmallTerm (term_at new.bank.terms u))) (sym e) (λ u h. none u h);
-  uncut = subst (λ (b : BankUse). b.kind ≢ kind.Cut) (sym e) (λ h. cc);
-  numbers = numbered;
-  fits = subst (λ (b : BankUse). IsInstanceBy new.bank new.lits (rows_in new) b (map (map (bank_literal new.bank.terms new.lits)) i.alternatives)) (sym e) fits;
+  numbered = subst (λ (b : UseByNumbers). Each (IsNumberIn new.lits) (principals_of b)) (sym e) (here, tt);
+  parts = subst (EachPart (IsPlace new.bank.terms) (IsNumberIn new.lits)) (sym e) tt;
+  small = subst (EachPart (λ u. IsSmallTerm (term_at new.bank.terms u)) (λ l. Unit {0})) (sym e) tt;
+  uncut = ap is_cut_use e;
+  numbers = listed;
+  fits = subst (λ (b : UseByNumbers). IsInstanceBy new.bank new.lits (rows_in new) b (map (map (bank_literal new.bank.terms new.lits)) i.alternatives)) (sym e) fits;
 }
   where
-    here : (l : SatLit) → lit ≡ l → IsNumberIn new.lits l
-    here l h = subst (IsNumberIn new.lits) h (let n = ap length begins.is in let m = length-append old.lits begins.further in omega (arith, number, n, m))
-
-    none : {X : Type 0} {P : Type 0} (x : X) → None ≡ Some x → P
-    none x h = cc
+    here : IsNumberIn new.lits lit
+    here = let n = ap length begins.is in let m = length-append old.lits begins.further in omega (arith, number, n, m)

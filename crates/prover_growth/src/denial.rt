@@ -15,11 +15,12 @@ ghost use Rattle.prover_state.specs.Internal.Steps.{IsMadeInstance};
 
 use command_queue::Weigher;
 use instantiate::{Enumerator, target_of};
-use literal_map::{BankUse, Instance, RuleKind};
+use literal_map::Instance;
 use prover_state::{Basis, Core, Waiting, quantified_type};
 use sat_base::SatLit;
 use std::alloc::{AllocError, Global};
 use stt_core::Ty;
+use tableau_calculus::{OnePlace, RuleUse};
 use tableau_rules::{RuleRefused, make};
 use term_bank::equal_ids_for_equal_terms;
 
@@ -50,12 +51,7 @@ fn make_denial(alloc: Global, basis: &mut Basis, lit: SatLit) -> Result<Instance
     ensures widens { OnOk result (BasisWidens basis.old basis.new) }
     ensures declared { declarations_of basis.new ≡ declarations_of basis.old }
 {
-    let by = BankUse {
-        kind: RuleKind::AllNeg,
-        first: Some(lit),
-        second: None,
-        term: None,
-    };
+    let by = RuleUse::AtOne(OnePlace::AllNeg, lit);
     let made = make(
         alloc,
         &mut basis.bank,

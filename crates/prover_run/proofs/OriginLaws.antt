@@ -4,8 +4,8 @@ use Rattle.std.proofs.Common.{sym, ap, subst, ◌∙◌, inl, inr}
 use Rattle.std.proofs.lemmas.Bool.{or_cases}
 use Rattle.stt_core.specs.Lambda.{Lambda}
 use Rattle.tableau_calculus.specs.Literals.{Literal, opposite}
-use Rattle.tableau_calculus.specs.declared.refutation.RuleUse.{RuleUse}
-use Rattle.tableau_calculus.specs.declared.refutation.RuleUse.TheVariants.{Cut}
+use Rattle.tableau_calculus.specs.Rules.{PlainRule}
+use Rattle.tableau_calculus.specs.declared.rule_use.RuleUse.TheVariants.{Cut}
 use Rattle.tableau_calculus.specs.declared.refutation.Line.{Line}
 use Rattle.tableau_calculus.proofs.ListLaws.{contains-first, contains-later, contains-get}
 use Rattle.sat_base.specs.declared.literal.Var.{Var}
@@ -63,7 +63,7 @@ module _ (input : Input) where
   from_clause : (l : Line) → IsFromClause input l → Contains named (map opposite l.branch)
   from_clause l h = subst (Contains named) (sym (ap (map opposite) h.branch ∙ unnegated input.atoms h.clause)) (named_there h.number (clause_by h.clause h.instance) h.there)
 
-  comes-by : (rule : RuleUse) (start : List Literal) (l : Line) → IsFromSearchBy rule start input l → ComesFromBy rule start named l
+  comes-by : (rule : PlainRule) (start : List Literal) (l : Line) → IsFromSearchBy rule start input l → ComesFromBy rule start named l
   comes-by (Cut literal) start l h = atom_there literal.atom h
   comes-by rule start l (inl closed) = inl closed
   comes-by rule start l (inr from) = inr (from_clause l from)

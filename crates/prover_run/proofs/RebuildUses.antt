@@ -1,7 +1,6 @@
 -- The tables of a run are what a refutation is rebuilt from.
-use Rattle.std.specs.Prelude.{◌≡◌, ◌<◌, ◌-◌, ◌++◌, ℕ, suc, Bool, true, false, get_or, List, [], ◌∷◌, map, length, Option, Some, None, option_map, IfSome, slice_get, Contains, refl}
+use Rattle.std.specs.Prelude.{◌≡◌, ◌-◌, ◌++◌, ℕ, suc, Bool, true, false, get_or, List, [], ◌∷◌, map, length, Option, Some, None, option_map, slice_get, Contains, refl}
 use Rattle.std.specs.List.{All}
-use Rattle.std.specs.Option.{ForSome}
 use Rattle.std.proofs.Common.{sym, ap, subst, ◌∙◌, arith, length-append}
 use Rattle.std.proofs.lemmas.List.{map-append, length-map}
 use Rattle.std.proofs.lemmas.List.Elements.{All-take}
@@ -10,7 +9,10 @@ use Rattle.stt_core.specs.Typing.{Scope}
 use Rattle.stt_core.specs.Lambda.{Lambda}
 use Rattle.tableau_calculus.specs.Literals.{Literal}
 use Rattle.tableau_calculus.specs.Witnesses.{with_rows}
-use Rattle.tableau_calculus.specs.Rules.{Rule, places}
+use Rattle.tableau_calculus.specs.RuleUses.{principals_of}
+use Rattle.tableau_calculus.specs.Rules.{PlainRule, Rule}
+use Rattle.tableau_calculus.specs.Closed.{literals_at}
+use Rattle.tableau_calculus.specs.declared.rule_use.RuleUse.TheVariants.{Cut}
 use Rattle.tableau_calculus.specs.declared.refutation.Line.{Line}
 use Rattle.tableau_calculus.specs.declared.refutation.Refutation.{Refutation}
 use Rattle.tableau_calculus.proofs.AcceptedLaws.{literals_at-are}
@@ -24,6 +26,7 @@ use Rattle.sat_core.specs.Solver.{SolverState, learned_from, learned, OccurIn, W
 use Rattle.term_bank.specs.Content.{content_scope}
 use Rattle.search_spec.specs.Each.{Each}
 use Rattle.literal_map.specs.Atoms.{bank_literal}
+use Rattle.literal_map.specs.Numbers.{UseByNumbers}
 use Rattle.literal_map.specs.declared.instance.Instance.{Instance}
 use Rattle.rebuild_spec.specs.Input.{literals_of, clause_in}
 use Rattle.rebuild_spec.specs.Rebuilt.{IsRebuilt}
@@ -35,8 +38,7 @@ use Rattle.search_spec.specs.Unsatisfiable.{Clause}
 use Rattle.tableau_clauses.specs.Table.{Step, Table, the_clauses, ComesFromOrigin, EachComes, units_in, start_units}
 use Rattle.tableau_clauses.specs.declared.origin.Origin.{Origin}
 use Rattle.tableau_clauses.specs.declared.origin.Origin.TheVariants.{Start, Instance as From}
-use Rattle.tableau_rules.specs.Uses.{principals_of}
-use Rattle.tableau_rules.proofs.MadeLaws.{principals_within}
+use Rattle.tableau_rules.specs.Uses.{use_of}
 use Rattle.tableau_rebuild.specs.Tables.{no_literal, atoms_at, sourced, the_sources, the_input, start_literals_in, unit_literals}
 use Rattle.tableau_rebuild.specs.Conditions.{IsInstanceOver, EndsEmpty}
 use Rattle.prover_state.specs.declared.tables.Basis.{Basis}
@@ -49,16 +51,17 @@ use Rattle.prover_run.specs.Learning.{HasLearned, AreRefutedWithin}
 use Rattle.prover_run.specs.Origin.{ComesFrom as ComesFromClauses, EachComesFrom, AreRefutedShortly}
 use Rattle.prover_run.proofs.LearningLaws.{propagates-from_reaches}
 use Rattle.prover_run.proofs.OriginLaws.{comes-from}
-use Rattle.prover_run.proofs.PrincipalLaws.{principals-at}
 
 -- what holds of all results holds of the learned ones
 pub learned-among : (P : List SatLit → Type 0) (refuted : Bool) (rs : List (List SatLit)) → All P rs → All P (learned_from refuted rs)
 learned-among P true rs h = All-take P (length rs - 1) rs h
 learned-among P false rs h = h
 
-some_for : {X : Type 0} (P : X → Type 0) (o : Option X) → ForSome o P → IfSome o P
-some_for P None h = tt
-some_for P (Some x) h = h x refl
+-- the principals stand at the places of their rule
+principals-placed : (terms : List Lambda) (atoms : List ℕ) (by : UseByNumbers)
+    → literals_at (map (bank_literal terms atoms) (principals_of by)) (principals_of (use_of terms atoms by)) ≡ map (bank_literal terms atoms) (principals_of by)
+principals-placed terms atoms (Cut l) = refl
+principals-placed terms atoms by = refl
 
 -- the clause of a source is the clause that comes from there
 clause_sourced : (terms : List Lambda) (atoms : List ℕ) (t : Table) (clause : List SatLit) (o : Origin) → ComesFromOrigin t.1 clause o → clause_in (sourced terms atoms t.1 clause o) ≡ clause
@@ -100,28 +103,28 @@ module _ (g : Basis) (good : IsBasis g) where
 
   module _ (i : Instance) (m : IsMadeInstance g i) where
     abbrev principals_number : Each (IsNumberIn g.lits) i.principals
-    principals_number = subst (Each (IsNumberIn g.lits)) (sym m.principals) (principals_within (length g.lits) i.by m.first m.second)
+    principals_number = subst (Each (IsNumberIn g.lits)) (sym m.principals) m.numbered
 
-    principals_are : m.fits.is_instance.principals ≡ literals_of named i.principals
+    abbrev rule : PlainRule
+    rule = use_of g.bank.terms g.lits i.by
+
+    principals_are : m.fits.principals ≡ literals_of named i.principals
     principals_are =
-        sym (literals_at-are (map by_number (principals_of i.by)) (places m.fits.rule) m.fits.is_instance.principals m.fits.is_instance.at_places)
-        ∙ principals-at by_number i.by _ m.fits.rule m.fits.is_rule
+        sym (literals_at-are (map by_number (principals_of i.by)) (principals_of rule) m.fits.principals m.fits.at_places)
+        ∙ principals-placed g.bank.terms g.lits i.by
         ∙ ap (map by_number) (sym m.principals)
         ∙ literals-named i.principals principals_number
 
-    rule_fits : Rule (with_rows (content_scope g.bank) (rows_in g)) (rows_in g) m.fits.rule (literals_of named i.principals) (map (literals_of named) i.alternatives)
+    rule_fits : Rule (with_rows (content_scope g.bank) (rows_in g)) (rows_in g) rule (literals_of named i.principals) (map (literals_of named) i.alternatives)
     rule_fits =
-        let S : Scope → Type 0 = λ s. Rule s (rows_in g) m.fits.rule (literals_of named i.principals) (map (literals_of named) i.alternatives) in
-        let P : List Literal → Type 0 = λ ls. Rule (content_scope g.bank) (rows_in g) m.fits.rule ls (map (literals_of named) i.alternatives) in
-        let A : List (List Literal) → Type 0 = λ as'. Rule (content_scope g.bank) (rows_in g) m.fits.rule m.fits.is_instance.principals as' in
-        subst S (sym scope_rows) (subst P principals_are (subst A (lists-named i.alternatives m.numbers) m.fits.is_instance.fits))
+        let S : Scope → Type 0 = λ s. Rule s (rows_in g) rule (literals_of named i.principals) (map (literals_of named) i.alternatives) in
+        let P : List Literal → Type 0 = λ ls. Rule (content_scope g.bank) (rows_in g) rule ls (map (literals_of named) i.alternatives) in
+        let A : List (List Literal) → Type 0 = λ as'. Rule (content_scope g.bank) (rows_in g) rule m.fits.principals as' in
+        subst S (sym scope_rows) (subst P principals_are (subst A (lists-named i.alternatives m.numbers) m.fits.fits))
 
     pub made-over : IsInstanceOver g.bank g.lits (rows_in g) i
     made-over = record {
-      rule = m.fits.rule;
-      is_rule = m.fits.is_rule;
-      first = some_for (IsNumberIn g.lits) i.by.first m.first;
-      term = some_for (λ u. u < length g.bank.terms) i.by.term m.term;
+      takes = m.parts;
       principals = over i.principals principals_number;
       alternatives = All-from_each (IsOver (length g.lits)) i.alternatives (each-weaker (Each (IsNumberIn g.lits)) (IsOver (length g.lits)) over i.alternatives m.numbers);
       fits = rule_fits;

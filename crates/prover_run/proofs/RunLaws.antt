@@ -10,8 +10,8 @@ use Rattle.tableau_calculus.specs.Literals.{Literal}
 use Rattle.tableau_calculus.specs.Start.{start}
 use Rattle.tableau_calculus.specs.Witnesses.{Row, IsTableAfter}
 use Rattle.tableau_calculus.specs.Accepted.{Within, EndsWithin, IsAccepted}
-use Rattle.tableau_calculus.specs.declared.refutation.RuleUse.{RuleUse}
-use Rattle.tableau_calculus.specs.declared.refutation.RuleUse.TheVariants.{Cut}
+use Rattle.tableau_calculus.specs.Rules.{PlainRule}
+use Rattle.tableau_calculus.specs.declared.rule_use.RuleUse.TheVariants.{Cut}
 use Rattle.tableau_calculus.specs.declared.refutation.Line.{Line}
 use Rattle.tableau_calculus.specs.declared.refutation.Refutation.{Refutation}
 use Rattle.tableau_calculus.proofs.ListLaws.{contains-first, contains-later, contains_cases}
@@ -207,7 +207,7 @@ accepted_whole scope ls refutation a = record {
   last = record { front = a.last.front; last = a.last.last; are = a.last.are; within = within_whole a.last.last.branch ls a.last.within };
 }
 
-comes_whole : (rule : RuleUse) (ls : List Literal) (clauses : List Clause) (l : Line) → ComesFromBy rule (filter is_shallow_literal ls) clauses l → ComesFromBy rule ls clauses l
+comes_whole : (rule : PlainRule) (ls : List Literal) (clauses : List Clause) (l : Line) → ComesFromBy rule (filter is_shallow_literal ls) clauses l → ComesFromBy rule ls clauses l
 comes_whole (Cut literal) ls clauses l h = h
 comes_whole rule ls clauses l (inr from) = inr from
 comes_whole rule ls clauses l (inl h) =

@@ -1,12 +1,18 @@
 -- The refutation of a run is small enough for a text, since the terms of a run are small.
-use Rattle.std.specs.Prelude.{◌≡◌, ℕ, List, Some, unwrap_or, slice_get}
-use Rattle.std.proofs.Common.{sym, ap, subst, ◌∙◌}
+use Rattle.std.specs.Prelude.{◌≡◌, ℕ, false, List, Some, slice_get}
+use Rattle.std.proofs.Common.{sym, subst}
 use Rattle.std.proofs.lemmas.List.Elements.{recursion_from_All}
+use Rattle.stt_core.specs.Lambda.{Lambda}
 use Rattle.tableau_calculus.specs.Witnesses.{Row}
-use Rattle.tableau_calculus.specs.declared.refutation.RuleUse.TheVariants.{False}
+use Rattle.tableau_calculus.specs.RuleUses.{EachPart}
+use Rattle.tableau_calculus.specs.CutFree.{is_cut_use}
+use Rattle.tableau_calculus.specs.declared.rule_use.RuleUse.TheVariants.{Cut}
 use Rattle.tableau_calculus.specs.declared.refutation.Refutation.{Refutation}
 use Rattle.sat_base.specs.declared.literal.SatLit.{SatLit}
 use Rattle.sat_log.specs.declared.log.LogEntry.{LogEntry}
+use Rattle.term_bank.specs.Terms.{term_at}
+use Rattle.literal_map.specs.Atoms.{bank_literal}
+use Rattle.literal_map.specs.Numbers.{UseByNumbers}
 use Rattle.command_queue.specs.Queue.{Queue}
 use Rattle.search_spec.specs.Each.{Each}
 use Rattle.search_spec.specs.Numbered.{literal_at}
@@ -37,6 +43,12 @@ numbers_small : (input : Input) → Each (Each IsSmallLiteral) (named input) →
 numbers_small input small n x at =
     each-unmapped IsSmallLiteral (literal_at input.atoms) (clause_in x) (each-contains (Each IsSmallLiteral) (named input) (literals_of input.atoms (clause_in x)) small (named_there input n x at))
 
+-- where the term of a rule is small and the rule is no cut, all that it takes is small
+all_small : (terms : List Lambda) (atoms : List ℕ) (by : UseByNumbers) → is_cut_use by ≡ false → EachPart (λ u. IsSmallTerm (term_at terms u)) (λ l. Unit {0}) by
+    → EachPart (λ u. IsSmallTerm (term_at terms u)) (λ l. IsSmallTerm (bank_literal terms atoms l).atom) by
+all_small terms atoms (Cut l) h small = cc
+all_small terms atoms by h small = small
+
 module _ (t : Tables) (q : Queue Planned Delays) (running : IsRunning t q) (log : List LogEntry) where
   abbrev state_small : StateHasSmallTerms (the_state t q)
   state_small = stay_small (setting_by t q) (start_in t) running.modest running.modest_start t.done (the_state t q) running.comes_to
@@ -54,8 +66,7 @@ module _ (t : Tables) (q : Queue Planned Delays) (running : IsRunning t q) (log 
         let b = t.basis.bank in
         let from = instance_clause b t.basis.lits t.steps t.basis.witnesses comes (instances-over t.basis running.right.basis t.steps.1 running.made) n clause i at in
         let made = each-at (IsMadeInstance t.basis) t.steps.1 from.number from.kept running.made from.there in
-        let same : from.over.rule ≡ i.rule = ap (λ o. unwrap_or o (False 0)) (sym from.over.is_rule) ∙ ap (λ (x : Instance). x.rule) from.same in
-        subst TakesSmall same (uses_small b.terms t.basis.lits from.kept.by from.over.rule from.over.is_rule (λ is_cut. absurd (made.uncut is_cut)) made.small)
+        subst (λ (x : Instance). TakesSmall x.rule) from.same (uses_small b.terms t.basis.lits from.kept.by (all_small b.terms t.basis.lits from.kept.by made.uncut made.small))
 
     source_small : (n : ℕ) (x : Sourced) → slice_get input.clauses n ≡ Some x → IsSmallSource input x
     source_small n (start_unit l) at = (numbers_small input clauses_small n (start_unit l) at).0

@@ -2,8 +2,8 @@
 use Rattle.std.specs.Prelude.{◌≡◌, ◌⊎◌, List, [], ◌∷◌, ◌++◌, map, Contains}
 use Rattle.stt_core.specs.Lambda.{Lambda}
 use Rattle.tableau_calculus.specs.Literals.{Literal, opposite}
-use Rattle.tableau_calculus.specs.declared.refutation.RuleUse.{RuleUse}
-use Rattle.tableau_calculus.specs.declared.refutation.RuleUse.TheVariants.{Cut}
+use Rattle.tableau_calculus.specs.Rules.{PlainRule}
+use Rattle.tableau_calculus.specs.declared.rule_use.RuleUse.TheVariants.{Cut}
 use Rattle.tableau_calculus.specs.declared.refutation.Line.{Line}
 use Rattle.tableau_calculus.specs.declared.refutation.Refutation.{Refutation}
 use Rattle.sat_log.specs.Chains.{results, IsLogOver}
@@ -24,7 +24,7 @@ pub record HasAtom (clauses : List Clause) (atom : Lambda) : Type 0 where
 
 -- Where a line of this rule comes from. A cut's atom is one of the clauses'. Any other line closes two literals of the start, or the
 -- negations of its branch's literals are one of the clauses.
-abbrev pub ComesFromBy : RuleUse → List Literal → List Clause → Line → Type 0
+abbrev pub ComesFromBy : PlainRule → List Literal → List Clause → Line → Type 0
 ComesFromBy (Cut literal) start clauses l = HasAtom clauses literal.atom
 ComesFromBy rule start clauses l = IsClosedByStart start l ⊎ Contains clauses (map opposite l.branch)
 

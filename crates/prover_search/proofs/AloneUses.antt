@@ -8,7 +8,9 @@ use Rattle.stt_core.specs.Typing.{Scope, IsScope, type_of}
 use Rattle.stt_core.specs.Canonical.{IsCanonical}
 use Rattle.tableau_calculus.specs.Literals.{Literal, plus, minus}
 use Rattle.tableau_calculus.specs.Rules.{false_rule, refl_rule, imp_pos_rule, imp_neg_rule, bool_pos_rule, bool_neg_rule, fun_pos_rule, fun_neg_rule, dec_rule, Alternatives, imp_pos, imp_neg, bool_pos, bool_neg, fun_pos, fun_neg, differ}
-use Rattle.tableau_calculus.specs.declared.refutation.RuleUse.TheVariants.{False, Refl, ImpPos, ImpNeg, BoolPos, BoolNeg, FunPos, FunNeg, Dec}
+use Rattle.tableau_calculus.specs.declared.rule_use.OnePlace.{OnePlace}
+use Rattle.tableau_calculus.specs.declared.rule_use.OnePlace.TheVariants.{False, Refl, ImpPos, ImpNeg, BoolPos, BoolNeg, FunPos, FunNeg, Dec}
+use Rattle.tableau_calculus.specs.declared.rule_use.RuleUse.TheVariants.{AtOne}
 use Rattle.tableau_calculus.proofs.EquationLaws.{eq_canonical}
 use Rattle.sat_base.specs.declared.literal.SatLit.{SatLit}
 use Rattle.search_spec.specs.Mode.{standard_mode}
@@ -18,13 +20,10 @@ use Rattle.search_spec.proofs.SpineLaws.{spine_is, same_head_is, applied_whole}
 use Rattle.search_spec.proofs.TypedPartners.{head_function}
 use Rattle.search_spec.proofs.TypedProcessing.{spines_differ, other_arguments}
 use Rattle.literal_map.specs.Atoms.{bank_literal}
-use Rattle.literal_map.specs.declared.instance.RuleKind.{RuleKind}
-use Rattle.literal_map.specs.declared.instance.RuleKind.TheVariants as kind
 use Rattle.tableau_rules.specs.Uses.{IsInstanceBy}
 use Rattle.prover_state.specs.declared.tables.Basis.{Basis}
 use Rattle.prover_state.specs.Internal.Names.{IsNumberIn}
 use Rattle.prover_state.specs.Internal.Standing.{without_witnesses, rows_in, scope_by, IsBasis}
-use Rattle.prover_search.specs.Internal.Working.{lone_use}
 use Rattle.prover_search.proofs.RuleUses.{scope-is, typed_here}
 
 -- the atom of a number is a closed formula
@@ -37,36 +36,36 @@ module _ (g : Basis) (lit : SatLit) where
   abbrev l_at : Literal
   l_at = bank_literal g.bank.terms g.lits lit
 
-  abbrev pub Takes : RuleKind → Alternatives → Type 0
-  Takes rule as' = IsInstanceBy g.bank g.lits (rows_in g) (lone_use rule lit) as'
+  abbrev pub Takes : OnePlace → Alternatives → Type 0
+  Takes rule as' = IsInstanceBy g.bank g.lits (rows_in g) (AtOne rule lit) as'
 
-  pub false-takes : l_at ≡ plus (constant falsity) → Takes kind.False []
-  false-takes e = record { rule = False 0; is_rule = refl; is_instance = record { principals = plus (constant falsity) ∷ []; at_places = (ap Some e, tt); fits = false_rule 0 } }
+  pub false-takes : l_at ≡ plus (constant falsity) → Takes False []
+  false-takes e = record { principals = plus (constant falsity) ∷ []; at_places = (ap Some e, tt); fits = false_rule 0 }
 
-  pub refl-takes : (a : SimpleType) (s : Lambda) → l_at ≡ minus (eq a s s) → Takes kind.Refl []
-  refl-takes a s e = record { rule = Refl 0; is_rule = refl; is_instance = record { principals = minus (eq a s s) ∷ []; at_places = (ap Some e, tt); fits = refl_rule 0 a s } }
+  pub refl-takes : (a : SimpleType) (s : Lambda) → l_at ≡ minus (eq a s s) → Takes Refl []
+  refl-takes a s e = record { principals = minus (eq a s s) ∷ []; at_places = (ap Some e, tt); fits = refl_rule 0 a s }
 
-  pub imp_pos-takes : (s t : Lambda) → l_at ≡ plus (imp s t) → Takes kind.ImpPos (imp_pos s t)
-  imp_pos-takes s t e = record { rule = ImpPos 0; is_rule = refl; is_instance = record { principals = plus (imp s t) ∷ []; at_places = (ap Some e, tt); fits = imp_pos_rule 0 s t } }
+  pub imp_pos-takes : (s t : Lambda) → l_at ≡ plus (imp s t) → Takes ImpPos (imp_pos s t)
+  imp_pos-takes s t e = record { principals = plus (imp s t) ∷ []; at_places = (ap Some e, tt); fits = imp_pos_rule 0 s t }
 
-  pub imp_neg-takes : (s t : Lambda) → l_at ≡ minus (imp s t) → Takes kind.ImpNeg (imp_neg s t)
-  imp_neg-takes s t e = record { rule = ImpNeg 0; is_rule = refl; is_instance = record { principals = minus (imp s t) ∷ []; at_places = (ap Some e, tt); fits = imp_neg_rule 0 s t } }
+  pub imp_neg-takes : (s t : Lambda) → l_at ≡ minus (imp s t) → Takes ImpNeg (imp_neg s t)
+  imp_neg-takes s t e = record { principals = minus (imp s t) ∷ []; at_places = (ap Some e, tt); fits = imp_neg_rule 0 s t }
 
-  pub bool_pos-takes : (s t : Lambda) → l_at ≡ plus (eq formula s t) → Takes kind.BoolPos (bool_pos s t)
-  bool_pos-takes s t e = record { rule = BoolPos 0; is_rule = refl; is_instance = record { principals = plus (eq formula s t) ∷ []; at_places = (ap Some e, tt); fits = bool_pos_rule 0 s t } }
+  pub bool_pos-takes : (s t : Lambda) → l_at ≡ plus (eq formula s t) → Takes BoolPos (bool_pos s t)
+  bool_pos-takes s t e = record { principals = plus (eq formula s t) ∷ []; at_places = (ap Some e, tt); fits = bool_pos_rule 0 s t }
 
-  pub bool_neg-takes : (s t : Lambda) → l_at ≡ minus (eq formula s t) → Takes kind.BoolNeg (bool_neg s t)
-  bool_neg-takes s t e = record { rule = BoolNeg 0; is_rule = refl; is_instance = record { principals = minus (eq formula s t) ∷ []; at_places = (ap Some e, tt); fits = bool_neg_rule 0 s t } }
+  pub bool_neg-takes : (s t : Lambda) → l_at ≡ minus (eq formula s t) → Takes BoolNeg (bool_neg s t)
+  bool_neg-takes s t e = record { principals = minus (eq formula s t) ∷ []; at_places = (ap Some e, tt); fits = bool_neg_rule 0 s t }
 
-  pub fun_pos-takes : (a b : SimpleType) (s t : Lambda) → l_at ≡ plus (eq (arrow a b) s t) → Takes kind.FunPos (fun_pos a b s t)
-  fun_pos-takes a b s t e = record { rule = FunPos 0; is_rule = refl; is_instance = record { principals = plus (eq (arrow a b) s t) ∷ []; at_places = (ap Some e, tt); fits = fun_pos_rule 0 a b s t } }
+  pub fun_pos-takes : (a b : SimpleType) (s t : Lambda) → l_at ≡ plus (eq (arrow a b) s t) → Takes FunPos (fun_pos a b s t)
+  fun_pos-takes a b s t e = record { principals = plus (eq (arrow a b) s t) ∷ []; at_places = (ap Some e, tt); fits = fun_pos_rule 0 a b s t }
 
-  pub fun_neg-takes : (a b : SimpleType) (s t : Lambda) → l_at ≡ minus (eq (arrow a b) s t) → Takes kind.FunNeg (fun_neg a b s t)
-  fun_neg-takes a b s t e = record { rule = FunNeg 0; is_rule = refl; is_instance = record { principals = minus (eq (arrow a b) s t) ∷ []; at_places = (ap Some e, tt); fits = fun_neg_rule 0 a b s t } }
+  pub fun_neg-takes : (a b : SimpleType) (s t : Lambda) → l_at ≡ minus (eq (arrow a b) s t) → Takes FunNeg (fun_neg a b s t)
+  fun_neg-takes a b s t e = record { principals = minus (eq (arrow a b) s t) ∷ []; at_places = (ap Some e, tt); fits = fun_neg_rule 0 a b s t }
 
   -- the sides of a negated equation, which have one compared head
   module _ (good : IsBasis g) (number : IsNumberIn g.lits lit) (over : IsScope (scope_by g)) where
-    pub dec-takes : (n : ℕ) (s t : Lambda) → l_at ≡ minus (eq (base (suc n)) s t) → (is_spine s && same_head s t) ≡ true → Takes kind.Dec (differ (type_of (scope_by g) [] (head_of s)) (arguments s) (arguments t))
+    pub dec-takes : (n : ℕ) (s t : Lambda) → l_at ≡ minus (eq (base (suc n)) s t) → (is_spine s && same_head s t) ≡ true → Takes Dec (differ (type_of (scope_by g) [] (head_of s)) (arguments s) (arguments t))
     dec-takes n s t e h =
         let b : SimpleType = base (suc n) in
         let setting : Setting = record { scope = without_witnesses g.bank; mode = standard_mode } in
@@ -81,13 +80,9 @@ module _ (g : Basis) (lit : SatLit) where
         let t_is : t ≡ applied (constant sp.head) (o.0 ∷ o.1) = sym (applied_whole t) ∙ ap₂ applied same o.2 in
         let S : Lambda = applied (constant sp.head) (sp.first ∷ sp.more) in
         let T : Lambda = applied (constant sp.head) (o.0 ∷ o.1) in
-        subst (Takes kind.Dec) (sym (spines_differ setting (rows_in g) over s t sp.head (arrow f.0 f.1) sp.first sp.more o.0 o.1 sp.head_is sp.arguments_are o.2 f.2))
+        subst (Takes Dec) (sym (spines_differ setting (rows_in g) over s t sp.head (arrow f.0 f.1) sp.first sp.more o.0 o.1 sp.head_is sp.arguments_are o.2 f.2))
         (record {
-          rule = Dec 0;
-          is_rule = refl;
-          is_instance = record {
-            principals = minus (eq b S T) ∷ [];
-            at_places = (ap Some (e ∙ ap₂ (λ u v. minus (eq b u v)) sp.is t_is), tt);
-            fits = dec_rule 0 n sp.head (arrow f.0 f.1) sp.first o.0 sp.more o.1 sp.compared (typed_here g good sp.head (arrow f.0 f.1) f.2);
-          };
+          principals = minus (eq b S T) ∷ [];
+          at_places = (ap Some (e ∙ ap₂ (λ u v. minus (eq b u v)) sp.is t_is), tt);
+          fits = dec_rule 0 n sp.head (arrow f.0 f.1) sp.first o.0 sp.more o.1 sp.compared (typed_here g good sp.head (arrow f.0 f.1) f.2);
         })

@@ -5,19 +5,21 @@ use Rattle.stt_core.specs.Typing.{Scope}
 use Rattle.stt_core.proofs.ListLaws.{map-append, slice_get-append}
 use Rattle.tableau_calculus.specs.Literals.{Literal}
 use Rattle.tableau_calculus.specs.Witnesses.{Row}
-use Rattle.tableau_calculus.specs.Rules.{Rule, false_rule, close_rule, refl_rule, imp_pos_rule, imp_neg_rule, bool_pos_rule, bool_neg_rule, fun_pos_rule, fun_neg_rule, all_pos_rule, all_neg_rule, mat_rule, dec_rule, con_rule, cho_rule, des_rule, cut_rule}
-use Rattle.tableau_calculus.specs.declared.refutation.RuleUse.{RuleUse}
+use Rattle.tableau_calculus.specs.Rules.{PlainRule, Rule, false_rule, close_rule, refl_rule, imp_pos_rule, imp_neg_rule, bool_pos_rule, bool_neg_rule, fun_pos_rule, fun_neg_rule, all_pos_rule, all_neg_rule, mat_rule, dec_rule, con_rule, cho_rule, des_rule, cut_rule}
+use Rattle.tableau_calculus.specs.RuleUses.{principals_of, EachPart}
+use Rattle.tableau_calculus.specs.declared.rule_use.RuleUse.TheVariants.{AtOne, AtTwo, AllPos, WithPredicate, Cut}
+use Rattle.tableau_calculus.proofs.UseLaws.{each_part-more}
 use Rattle.sat_base.specs.declared.literal.SatLit.{SatLit}
 use Rattle.refute_print.specs.Sizes.{IsSmallTerm}
 use Rattle.search_spec.specs.Each.{Each}
 use Rattle.term_bank.specs.Content.{Content}
 use Rattle.term_bank.specs.Terms.{term_at}
 use Rattle.literal_map.specs.Atoms.{bank_literal}
-use Rattle.literal_map.specs.declared.instance.BankUse.{BankUse}
+use Rattle.literal_map.specs.Numbers.{UseByNumbers}
 use Rattle.literal_map.specs.declared.instance.Instance.{Instance}
 use Rattle.witness_names.specs.Rows.{row_of, rows_of}
 use Rattle.tableau_rules.specs.Uses.{IsInstanceBy}
-use Rattle.tableau_rules.proofs.MadeLaws.{instance_on, instance_wider}
+use Rattle.tableau_rules.proofs.MadeLaws.{parts_wider, instance_on, instance_wider}
 use Rattle.tableau_rules.proofs.WideLaws.{wide_within}
 use Rattle.prover_state.specs.declared.tables.Basis.{Basis}
 use Rattle.prover_state.specs.Internal.Names.{Naming, IsNumberIn, IsPlace}
@@ -29,7 +31,7 @@ use Rattle.prover_state.specs.Internal.Steps.{IsMadeInstance}
 use Rattle.prover_search.specs.Internal.Developing.{IsWider}
 
 -- with further rows a rule has the instances that it had
-rule_rows : (scope : Scope) (rows more : List Row) (rule : RuleUse) (ps : List Literal) (as' : List (List Literal)) → Rule scope rows rule ps as' → Rule scope (rows ++ more) rule ps as'
+rule_rows : (scope : Scope) (rows more : List Row) (rule : PlainRule) (ps : List Literal) (as' : List (List Literal)) → Rule scope rows rule ps as' → Rule scope (rows ++ more) rule ps as'
 rule_rows scope rows more _ _ _ (false_rule i) = false_rule i
 rule_rows scope rows more _ _ _ (close_rule i j l) = close_rule i j l
 rule_rows scope rows more _ _ _ (refl_rule i a u) = refl_rule i a u
@@ -48,12 +50,8 @@ rule_rows scope rows more _ _ _ (cho_rule a f c) = cho_rule a f c
 rule_rows scope rows more _ _ _ (des_rule a f c) = des_rule a f c
 rule_rows scope rows more _ _ _ (cut_rule l h) = cut_rule l h
 
-instance_rows : (b : Content) (atoms : List ℕ) (rows more : List Row) (by : BankUse) (as' : List (List Literal)) → IsInstanceBy b atoms rows by as' → IsInstanceBy b atoms (rows ++ more) by as'
-instance_rows b atoms rows more by as' h = record {
-  rule = h.rule;
-  is_rule = h.is_rule;
-  is_instance = record { principals = h.is_instance.principals; at_places = h.is_instance.at_places; fits = rule_rows _ rows more h.rule h.is_instance.principals as' h.is_instance.fits };
-}
+instance_rows : (b : Content) (atoms : List ℕ) (rows more : List Row) (by : UseByNumbers) (as' : List (List Literal)) → IsInstanceBy b atoms rows by as' → IsInstanceBy b atoms (rows ++ more) by as'
+instance_rows b atoms rows more by as' h = record { principals = h.principals; at_places = h.at_places; fits = rule_rows _ rows more _ h.principals as' h.fits }
 
 -- names without partial terms
 abbrev plain : Basis → Naming
@@ -88,6 +86,13 @@ module _ (g h : Basis) (good : IsBasis g) (w : IsWider g h) where
       ∙ ap (λ (rs : List Row). rs ++ rows_of h.bank.terms w.witnesses.0)
       (map-same (λ id. row_of (term_at h.bank.terms id)) (λ id. row_of (term_at g.bank.terms id)) (IsPlace g.bank.terms) (λ id k. ap row_of (term-wider id k)) g.witnesses (each-from_All (IsPlace g.bank.terms) g.witnesses good.rows.within))
 
+  small-wider : (by : UseByNumbers) → EachPart (IsPlace g.bank.terms) (IsNumberIn g.lits) by → EachPart (λ u. IsSmallTerm (term_at g.bank.terms u)) (λ l. Unit {0}) by → EachPart (λ u. IsSmallTerm (term_at h.bank.terms u)) (λ l. Unit {0}) by
+  small-wider (AtOne rule l) p k = k
+  small-wider (AtTwo rule l m) p k = k
+  small-wider (AllPos l u) p k = subst IsSmallTerm (sym (term-wider u p)) k
+  small-wider (WithPredicate rule u) p k = subst IsSmallTerm (sym (term-wider u p)) k
+  small-wider (Cut l) p k = k
+
   pub made-wider : (i : Instance) → IsMadeInstance g i → IsMadeInstance h i
   made-wider i m =
       let d : SatLit → Literal = bank_literal g.bank.terms g.lits in
@@ -97,16 +102,15 @@ module _ (g h : Basis) (good : IsBasis g) (w : IsWider g h) where
       let R : List Row → Type 0 = λ rs. IsInstanceBy h.bank h.lits rs i.by (map (map d) i.alternatives) in
       record {
         principals = m.principals;
-        first = λ l q. number-wider l (m.first l q);
-        second = λ l q. number-wider l (m.second l q);
-        term = λ u q. wide_within g.bank h.bank w.bank u (m.term u q);
-        small = λ u q. subst IsSmallTerm (sym (term-wider u (m.term u q))) (m.small u q);
+        numbered = each-weaker (IsNumberIn g.lits) (IsNumberIn h.lits) number-wider (principals_of i.by) m.numbered;
+        parts = each_part-more (IsPlace g.bank.terms) (IsPlace h.bank.terms) (IsNumberIn g.lits) (IsNumberIn h.lits) (wide_within g.bank h.bank w.bank) number-wider i.by m.parts;
+        small = small-wider i.by m.parts m.small;
         uncut = m.uncut;
         numbers = each-weaker (Each (IsNumberIn g.lits)) (Each (IsNumberIn h.lits)) (λ ls k. each-weaker (IsNumberIn g.lits) (IsNumberIn h.lits) number-wider ls k) i.alternatives m.numbers;
         fits =
             subst F (sym same)
             (subst R (sym rows-wider)
             (instance_rows h.bank h.lits (rows_in g) (rows_of h.bank.terms w.witnesses.0) i.by (map (map d) i.alternatives)
-            (instance_on h.bank g.lits h.lits i.by w.lits m.first m.second (rows_in g) (map (map d) i.alternatives)
-            (instance_wider g.bank h.bank g.lits i.by w.bank good.atoms m.first m.second m.term (rows_in g) (map (map d) i.alternatives) m.fits))));
+            (instance_on i.by (rows_in g) (map (map d) i.alternatives) h.bank g.lits h.lits w.lits m.numbered (parts_wider g.bank h.bank g.lits i.by w.bank m.parts)
+            (instance_wider i.by (rows_in g) (map (map d) i.alternatives) g.bank h.bank g.lits w.bank good.atoms m.numbered m.parts m.fits))));
       }

@@ -1,5 +1,5 @@
 -- The instances of commands, by numbers.
-use Rattle.std.specs.Prelude.{◌≡◌, ℕ, suc, Bool, true, false, List, [], ◌∷◌, ◌++◌, map, length, Some, None, refl, if◌then◌else◌}
+use Rattle.std.specs.Prelude.{◌≡◌, ℕ, suc, Bool, true, false, List, [], ◌∷◌, ◌++◌, map, length, Some, refl, if◌then◌else◌}
 use Rattle.std.proofs.Common.{sym, ap, ◌∙◌, subst, append_assoc}
 use Rattle.stt_core.specs.SimpleType.{SimpleType, base, arrow, formula, predicate}
 use Rattle.stt_core.specs.Lambda.{Constant, Lambda, constant, app, applied, every, eq}
@@ -7,7 +7,9 @@ use Rattle.stt_core.specs.Typing.{Scope, IsScope, constant_type, type_of}
 use Rattle.stt_core.specs.Canonical.{IsCanonical}
 use Rattle.tableau_calculus.specs.Literals.{Literal, plus, minus}
 use Rattle.tableau_calculus.specs.Rules.{all_pos_rule, mat_rule, con_rule, cho_rule, des_rule, Alternatives, all_pos, con, cho, des, differ}
-use Rattle.tableau_calculus.specs.declared.refutation.RuleUse.TheVariants.{AllPos, Mat, Con, Cho, Des}
+use Rattle.tableau_calculus.specs.declared.rule_use.TwoPlaces.TheVariants.{Mat, Con}
+use Rattle.tableau_calculus.specs.declared.rule_use.OfPredicate.TheVariants.{Cho, Des}
+use Rattle.tableau_calculus.specs.declared.rule_use.RuleUse.TheVariants.{AtTwo, AllPos, WithPredicate}
 use Rattle.sat_base.specs.declared.literal.SatLit.{SatLit}
 use Rattle.search_spec.specs.Spine.{head_of, arguments}
 use Rattle.search_spec.specs.Mode.{standard_mode}
@@ -21,8 +23,7 @@ use Rattle.search_spec.proofs.TypedProcessing.{spines_differ}
 use Rattle.term_bank.specs.Content.{content_scope}
 use Rattle.term_bank.specs.Terms.{term_at}
 use Rattle.literal_map.specs.Atoms.{bank_literal}
-use Rattle.literal_map.specs.declared.instance.BankUse.{BankUse}
-use Rattle.literal_map.specs.declared.instance.RuleKind.TheVariants as kind
+use Rattle.literal_map.specs.Numbers.{UseByNumbers}
 use Rattle.tableau_rules.specs.Uses.{IsInstanceBy}
 use Rattle.prover_state.specs.declared.tables.Basis.{Basis}
 use Rattle.prover_state.specs.Internal.Standing.{without_witnesses, rows_in, scope_by, IsBasis}
@@ -50,7 +51,7 @@ module _ (g : Basis) (good : IsBasis g) where
   abbrev t_at : ℕ → Lambda
   t_at = term_at g.bank.terms
 
-  abbrev Fits : BankUse → Alternatives → Type 0
+  abbrev Fits : UseByNumbers → Alternatives → Type 0
   Fits by as' = IsInstanceBy g.bank g.lits (rows_in g) by as'
 
   canonical_here : (a : SimpleType) (t : Lambda) → IsCanonical (scope_by g) [] a t → IsCanonical (content_scope g.bank) [] a t
@@ -59,51 +60,32 @@ module _ (g : Basis) (good : IsBasis g) where
   pub typed_here : (c : Constant) (a : SimpleType) → constant_type (scope_by g) c ≡ Some a → constant_type (content_scope g.bank) c ≡ Some a
   typed_here c a h = let P : Scope → Type 0 = λ s. constant_type s c ≡ Some a in subst P (scope-is g good) h
 
-  abbrev pub inst_use : SatLit → ℕ → BankUse
-  inst_use l u = record { kind = kind.AllPos; first = Some l; second = None; term = Some u }
-
-  pub inst-fits : (l : SatLit) (u : ℕ) (h : Instantiates (scope_by g) (l_at l) (t_at u)) → Fits (inst_use l u) (all_pos h.predicate (t_at u))
+  pub inst-fits : (l : SatLit) (u : ℕ) (h : Instantiates (scope_by g) (l_at l) (t_at u)) → Fits (AllPos l u) (all_pos h.predicate (t_at u))
   inst-fits l u h = record {
-    rule = AllPos 0 (t_at u);
-    is_rule = refl;
-    is_instance = record { principals = plus (every h.type h.predicate) ∷ []; at_places = (ap Some h.is_universal, tt); fits = all_pos_rule 0 h.type h.predicate (t_at u) (canonical_here h.type (t_at u) h.argument) };
+    principals = plus (every h.type h.predicate) ∷ [];
+    at_places = (ap Some h.is_universal, tt);
+    fits = all_pos_rule 0 h.type h.predicate (t_at u) (canonical_here h.type (t_at u) h.argument);
   }
 
-  abbrev pub choose_use : ℕ → BankUse
-  choose_use u = record { kind = kind.Cho; first = None; second = None; term = Some u }
+  pub choose-fits : (u : ℕ) (a : SimpleType) → IsCanonical (scope_by g) [] (predicate a) (t_at u) → Fits (WithPredicate Cho u) (cho a (t_at u))
+  choose-fits u a h = record { principals = []; at_places = tt; fits = cho_rule a (t_at u) (canonical_here (predicate a) (t_at u) h) }
 
-  pub choose-fits : (u : ℕ) (a : SimpleType) → IsCanonical (scope_by g) [] (predicate a) (t_at u) → Fits (choose_use u) (cho a (t_at u))
-  choose-fits u a h = record { rule = Cho (t_at u); is_rule = refl; is_instance = record { principals = []; at_places = tt; fits = cho_rule a (t_at u) (canonical_here (predicate a) (t_at u) h) } }
+  pub describe-fits : (u : ℕ) (a : SimpleType) → IsCanonical (scope_by g) [] (predicate a) (t_at u) → Fits (WithPredicate Des u) (des a (t_at u))
+  describe-fits u a h = record { principals = []; at_places = tt; fits = des_rule a (t_at u) (canonical_here (predicate a) (t_at u) h) }
 
-  abbrev pub describe_use : ℕ → BankUse
-  describe_use u = record { kind = kind.Des; first = None; second = None; term = Some u }
-
-  pub describe-fits : (u : ℕ) (a : SimpleType) → IsCanonical (scope_by g) [] (predicate a) (t_at u) → Fits (describe_use u) (des a (t_at u))
-  describe-fits u a h = record { rule = Des (t_at u); is_rule = refl; is_instance = record { principals = []; at_places = tt; fits = des_rule a (t_at u) (canonical_here (predicate a) (t_at u) h) } }
-
-  abbrev pub confront_use : SatLit → SatLit → BankUse
-  confront_use l m = record { kind = kind.Con; first = Some l; second = Some m; term = None }
-
-  pub confront-fits : (l m : SatLit) (h : Confronts (scope_by g) (l_at l) (l_at m)) → Fits (confront_use l m) (con (base (suc h.n)) h.s h.t h.u h.v)
+  pub confront-fits : (l m : SatLit) (h : Confronts (scope_by g) (l_at l) (l_at m)) → Fits (AtTwo Con l m) (con (base (suc h.n)) h.s h.t h.u h.v)
   confront-fits l m h = record {
-    rule = Con 0 1;
-    is_rule = refl;
-    is_instance = record {
-      principals = plus (eq (base (suc h.n)) h.s h.t) ∷ minus (eq (base (suc h.n)) h.u h.v) ∷ [];
-      at_places = (ap Some h.is_positive, (ap Some h.is_negative, tt));
-      fits = con_rule 0 1 h.n h.s h.t h.u h.v;
-    };
+    principals = plus (eq (base (suc h.n)) h.s h.t) ∷ minus (eq (base (suc h.n)) h.u h.v) ∷ [];
+    at_places = (ap Some h.is_positive, (ap Some h.is_negative, tt));
+    fits = con_rule 0 1 h.n h.s h.t h.u h.v;
   }
-
-  abbrev pub mate_use : SatLit → SatLit → BankUse
-  mate_use l m = record { kind = kind.Mat; first = Some l; second = Some m; term = None }
 
   -- what the arguments of mated literals differ in
   abbrev pub differing : SatLit → SatLit → Alternatives
   differing l m = differ (type_of (scope_by g) [] (head_of (l_at l).atom)) (arguments (l_at l).atom) (arguments (l_at m).atom)
 
   module _ (over : IsScope (scope_by g)) where
-    pub mate-fits : (l m : SatLit) → Mates (scope_by g) (l_at l) (l_at m) → Fits (mate_use l m) (differing l m)
+    pub mate-fits : (l m : SatLit) → Mates (scope_by g) (l_at l) (l_at m) → Fits (AtTwo Mat l m) (differing l m)
     mate-fits l m h =
         let c = h.head in
         let lits : (l_at l).atom ≡ applied (constant c) (h.s ∷ h.ss) = ap (λ (x : Literal). x.atom) h.is_positive in
@@ -115,15 +97,11 @@ module _ (g : Basis) (good : IsBasis g) where
         (ap head_of lits ∙ head_of-applied (constant c) (h.s ∷ h.ss))
         (ap arguments lits ∙ arguments-applied (constant c) (h.s ∷ h.ss))
         (ap arguments mits ∙ arguments-applied (constant c) (h.t ∷ h.ts)) f.2 in
-        subst (Fits (mate_use l m)) (sym same)
+        subst (Fits (AtTwo Mat l m)) (sym same)
         (record {
-          rule = Mat 0 1;
-          is_rule = refl;
-          is_instance = record {
-            principals = plus (applied (constant c) (h.s ∷ h.ss)) ∷ minus (applied (constant c) (h.t ∷ h.ts)) ∷ [];
-            at_places = (ap Some h.is_positive, (ap Some h.is_negative, tt));
-            fits = mat_rule 0 1 c (arrow f.0 f.1) h.s h.t h.ss h.ts h.compared (typed_here c (arrow f.0 f.1) f.2);
-          };
+          principals = plus (applied (constant c) (h.s ∷ h.ss)) ∷ minus (applied (constant c) (h.t ∷ h.ts)) ∷ [];
+          at_places = (ap Some h.is_positive, (ap Some h.is_negative, tt));
+          fits = mat_rule 0 1 c (arrow f.0 f.1) h.s h.t h.ss h.ts h.compared (typed_here c (arrow f.0 f.1) f.2);
         })
 
 -- What the commands do, where they have their instances.

@@ -17,11 +17,11 @@ use crate::alone::apply_alone;
 use crate::sides::{Sides, add_terms, offer_sides, sides_of};
 use crate::spine::share_spine;
 use command_queue::Weigher;
-use literal_map::RuleKind;
 use prover_state::{Core, Waiting};
 use sat_base::SatLit;
 use std::alloc::AllocError;
 use stt_core::Ty;
+use tableau_calculus::OnePlace;
 
 /// An equation between formulas, or the negation of one, is split by the truth of its sides.
 pub(crate) fn work_on_formulas<W: Weigher<Waiting>>(
@@ -41,10 +41,10 @@ pub(crate) fn work_on_formulas<W: Weigher<Waiting>>(
     ensures lasts { lasting core.new.tables ≡ lasting core.old.tables }
 {
     if lit.positive {
-        apply_alone(core, RuleKind::BoolPos, lit)?;
+        apply_alone(core, OnePlace::BoolPos, lit)?;
         return Ok(());
     }
-    apply_alone(core, RuleKind::BoolNeg, lit)?;
+    apply_alone(core, OnePlace::BoolNeg, lit)?;
     Ok(())
 }
 
@@ -64,7 +64,7 @@ fn work_on_unequal<W: Weigher<Waiting>>(core: &mut Core<W>, lit: SatLit) -> Resu
     ensures lasts { lasting core.new.tables ≡ lasting core.old.tables }
 {
     offer_sides(core, lit)?;
-    apply_alone(core, RuleKind::FunNeg, lit)?;
+    apply_alone(core, OnePlace::FunNeg, lit)?;
     Ok(())
 }
 
@@ -86,7 +86,7 @@ pub(crate) fn work_on_functions<W: Weigher<Waiting>>(
     ensures lasts { lasting core.new.tables ≡ lasting core.old.tables }
 {
     if lit.positive {
-        apply_alone(core, RuleKind::FunPos, lit)?;
+        apply_alone(core, OnePlace::FunPos, lit)?;
         return Ok(());
     }
     work_on_unequal(core, lit)?;
@@ -117,7 +117,7 @@ fn decompose<W: Weigher<Waiting>>(
     if !share_spine(&core.tables.basis.bank, sides.left, sides.right) {
         return Ok(());
     }
-    apply_alone(core, RuleKind::Dec, lit)?;
+    apply_alone(core, OnePlace::Dec, lit)?;
     Ok(())
 }
 

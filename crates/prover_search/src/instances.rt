@@ -16,10 +16,10 @@ ghost use Rattle.prover_state.specs.Internal.Standing.{scope_by, setting_by, the
 ghost use Rattle.prover_search.specs.Internal.Developing.{Develops};
 
 use command_queue::Weigher;
-use literal_map::{BankUse, RuleKind};
 use prover_state::{Core, DEPTH, Waiting};
 use sat_base::SatLit;
 use std::alloc::AllocError;
+use tableau_calculus::{OfPredicate, RuleUse, TwoPlaces};
 use term_bank::Id;
 
 /// Two literals with the same head are mated: their arguments differ somewhere.
@@ -41,12 +41,7 @@ pub(crate) fn mate<W: Weigher<Waiting>>(
     ensures lasts { lasting core.new.tables ≡ lasting core.old.tables }
 {
     let _declared = core.tables.basis.bank.sig();
-    core.apply_rule(BankUse {
-        kind: RuleKind::Mat,
-        first: Some(first),
-        second: Some(second),
-        term: None,
-    })?;
+    core.apply_rule(RuleUse::AtTwo(TwoPlaces::Mat, first, second))?;
     Ok(())
 }
 
@@ -68,12 +63,7 @@ pub(crate) fn confront<W: Weigher<Waiting>>(
     ensures rule { OnOk result (core.new.plan.rule ≡ core.old.plan.rule) }
     ensures lasts { lasting core.new.tables ≡ lasting core.old.tables }
 {
-    core.apply_rule(BankUse {
-        kind: RuleKind::Con,
-        first: Some(first),
-        second: Some(second),
-        term: None,
-    })?;
+    core.apply_rule(RuleUse::AtTwo(TwoPlaces::Con, first, second))?;
     Ok(())
 }
 
@@ -99,12 +89,7 @@ pub(crate) fn instantiate<W: Weigher<Waiting>>(
     if core.tables.basis.bank.depth(id) > DEPTH {
         return Ok(());
     }
-    core.apply_rule(BankUse {
-        kind: RuleKind::AllPos,
-        first: Some(lit),
-        second: None,
-        term: Some(id),
-    })?;
+    core.apply_rule(RuleUse::AllPos(lit, id))?;
     Ok(())
 }
 
@@ -122,12 +107,7 @@ pub(crate) fn choose<W: Weigher<Waiting>>(core: &mut Core<W>, id: Id) -> Result<
     ensures rule { OnOk result (core.new.plan.rule ≡ core.old.plan.rule) }
     ensures lasts { lasting core.new.tables ≡ lasting core.old.tables }
 {
-    core.apply_rule(BankUse {
-        kind: RuleKind::Cho,
-        first: None,
-        second: None,
-        term: Some(id),
-    })?;
+    core.apply_rule(RuleUse::WithPredicate(OfPredicate::Cho, id))?;
     Ok(())
 }
 
@@ -145,11 +125,6 @@ pub(crate) fn describe<W: Weigher<Waiting>>(core: &mut Core<W>, id: Id) -> Resul
     ensures rule { OnOk result (core.new.plan.rule ≡ core.old.plan.rule) }
     ensures lasts { lasting core.new.tables ≡ lasting core.old.tables }
 {
-    core.apply_rule(BankUse {
-        kind: RuleKind::Des,
-        first: None,
-        second: None,
-        term: Some(id),
-    })?;
+    core.apply_rule(RuleUse::WithPredicate(OfPredicate::Des, id))?;
     Ok(())
 }

@@ -11,10 +11,10 @@ ghost use Rattle.prover_search.specs.declared.shape.Shape.TheVariants.{Falsity, 
 
 use crate::alone::apply_alone;
 use command_queue::Weigher;
-use literal_map::RuleKind;
 use prover_state::{Core, Waiting};
 use sat_base::SatLit;
 use std::alloc::AllocError;
+use tableau_calculus::OnePlace;
 
 /// Falsity is refuted, and for its negation there is nothing to do.
 pub(crate) fn work_on_falsity<W: Weigher<Waiting>>(
@@ -35,7 +35,7 @@ pub(crate) fn work_on_falsity<W: Weigher<Waiting>>(
     if !lit.positive {
         return Ok(());
     }
-    apply_alone(core, RuleKind::False, lit)?;
+    apply_alone(core, OnePlace::False, lit)?;
     Ok(())
 }
 
@@ -56,9 +56,9 @@ pub(crate) fn work_on_implication<W: Weigher<Waiting>>(
     ensures lasts { lasting core.new.tables ≡ lasting core.old.tables }
 {
     if lit.positive {
-        apply_alone(core, RuleKind::ImpPos, lit)?;
+        apply_alone(core, OnePlace::ImpPos, lit)?;
         return Ok(());
     }
-    apply_alone(core, RuleKind::ImpNeg, lit)?;
+    apply_alone(core, OnePlace::ImpNeg, lit)?;
     Ok(())
 }

@@ -16,10 +16,10 @@ use crate::quantifier::work_on_quantified;
 use crate::shape::{Shape, atom_of, denies_itself, shape_of};
 use crate::spine::is_spine;
 use command_queue::Weigher;
-use literal_map::RuleKind;
 use prover_state::{Core, Waiting};
 use sat_base::SatLit;
 use std::alloc::AllocError;
+use tableau_calculus::OnePlace;
 
 /// A literal of another shape is to be mated, where its atom is a compared head with arguments.
 fn work_on_other<W: Weigher<Waiting>>(core: &mut Core<W>, lit: SatLit) -> Result<(), AllocError>
@@ -79,7 +79,7 @@ pub(crate) fn work<W: Weigher<Waiting>>(core: &mut Core<W>, lit: SatLit) -> Resu
     ensures lasts { lasting core.new.tables ≡ lasting core.old.tables }
 {
     if denies_itself(&core.tables.basis, lit) {
-        apply_alone(core, RuleKind::Refl, lit)?;
+        apply_alone(core, OnePlace::Refl, lit)?;
         return Ok(());
     }
     work_by_shape(core, lit)

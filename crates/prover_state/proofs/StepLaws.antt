@@ -1,19 +1,21 @@
 -- Steps behind those that were there.
-use Rattle.std.specs.Prelude.{◌≡◌, ◌≢◌, ℕ, zero, suc, List, [], ◌∷◌, ◌++◌, map, length, replicate, refl}
-use Rattle.std.specs.Option.{ForSome}
+use Rattle.std.specs.Prelude.{◌≡◌, ◌≢◌, false, ℕ, zero, suc, List, [], ◌∷◌, ◌++◌, map, length, replicate, refl}
 use Rattle.std.proofs.Common.{sym, ap, ap₂, ◌∙◌, subst, arith, append-nil, length-append}
 use Rattle.sat_base.specs.declared.literal.SatLit.{SatLit}
+use Rattle.tableau_calculus.specs.CutFree.{is_cut_use}
+use Rattle.tableau_calculus.specs.RuleUses.{principals_of, EachPart}
+use Rattle.tableau_calculus.specs.declared.rule_use.RuleUse.TheVariants.{AtOne, AtTwo, AllPos, WithPredicate, Cut}
+use Rattle.tableau_calculus.proofs.UseLaws.{each_part-more}
 use Rattle.refute_print.specs.Sizes.{IsSmallTerm}
 use Rattle.search_spec.specs.Each.{Each}
 use Rattle.search_spec.specs.Clauses.{with_clauses}
 use Rattle.search_spec.specs.Numbered.{numbers}
 use Rattle.literal_map.specs.Atoms.{bank_literal}
-use Rattle.literal_map.specs.declared.instance.BankUse.{BankUse}
+use Rattle.literal_map.specs.Numbers.{UseByNumbers}
 use Rattle.literal_map.specs.declared.instance.Instance.{Instance}
-use Rattle.literal_map.specs.declared.instance.RuleKind.TheVariants.{Cut}
 use Rattle.term_bank.specs.Terms.{term_at}
 use Rattle.term_bank.proofs.GrowLaws.{grown_within}
-use Rattle.tableau_rules.specs.Uses.{principals_of, IsInstanceBy}
+use Rattle.tableau_rules.specs.Uses.{IsInstanceBy}
 use Rattle.tableau_clauses.specs.declared.origin.Origin.{Origin}
 use Rattle.tableau_clauses.specs.declared.origin.Origin.TheVariants.{Start, Instance as From}
 use Rattle.tableau_clauses.specs.Table.{Step, Table, clauses_in, origins_in, the_clauses, the_origins, the_instances}
@@ -67,19 +69,18 @@ pub steps-weaker : (P Q : Instance → Type 0) → ((i : Instance) → P i → Q
 steps-weaker P Q f old new s = record { further = s.further; clauses = s.clauses; made = s.made; more = s.more; instances = s.instances; good = each-weaker P Q f s.more s.good }
 
 -- an instance by a use whose parts have numbers and whose term is small
-pub is-made : (old new : Basis) → BasisGrows old new → (by : BankUse) (i : Instance) → i.by ≡ by → i.principals ≡ principals_of by
-    → ForSome by.first (IsNumberIn old.lits) → ForSome by.second (IsNumberIn old.lits) → ForSome by.term (IsPlace old.bank.terms) → ForSome by.term (λ u. IsSmallTerm (term_at old.bank.terms u)) → by.kind ≢ Cut
+pub is-made : (old new : Basis) → BasisGrows old new → (by : UseByNumbers) (i : Instance) → i.by ≡ by → i.principals ≡ principals_of by
+    → Each (IsNumberIn old.lits) (principals_of by) → EachPart (IsPlace old.bank.terms) (IsNumberIn old.lits) by → EachPart (λ u. IsSmallTerm (term_at old.bank.terms u)) (λ l. Unit {0}) by → is_cut_use by ≡ false
     → Each (Each (IsNumberIn new.lits)) i.alternatives
     → IsInstanceBy new.bank new.lits (rows_in new) by (map (map (bank_literal new.bank.terms new.lits)) i.alternatives) → IsMadeInstance new i
-is-made old new grows by i e principals first second term small uncut numbered fits = record {
+is-made old new grows by i e principals named parts small uncut listed fits = record {
   principals = principals ∙ ap principals_of (sym e);
-  first = subst (λ (b : BankUse). ForSome b.first (IsNumberIn new.lits)) (sym e) (λ l h. number l (first l h));
-  second = subst (λ (b : BankUse). ForSome b.second (IsNumberIn new.lits)) (sym e) (λ l h. number l (second l h));
-  term = subst (λ (b : BankUse). ForSome b.term (IsPlace new.bank.terms)) (sym e) (λ u h. grown_within old.bank new.bank u grows.bank (term u h));
-  small = subst (λ (b : BankUse). ForSome b.term (λ u. IsSmallTerm (term_at new.bank.terms u))) (sym e) (λ u h. subst IsSmallTerm (sym (term_same u (term u h))) (small u h));
-  uncut = subst (λ (b : BankUse). b.kind ≢ Cut) (sym e) uncut;
-  numbers = numbered;
-  fits = subst (λ (b : BankUse). IsInstanceBy new.bank new.lits (rows_in new) b (map (map (bank_literal new.bank.terms new.lits)) i.alternatives)) (sym e) fits;
+  numbered = subst (λ (b : UseByNumbers). Each (IsNumberIn new.lits) (principals_of b)) (sym e) (each-weaker (IsNumberIn old.lits) (IsNumberIn new.lits) number (principals_of by) named);
+  parts = subst (EachPart (IsPlace new.bank.terms) (IsNumberIn new.lits)) (sym e) (each_part-more (IsPlace old.bank.terms) (IsPlace new.bank.terms) (IsNumberIn old.lits) (IsNumberIn new.lits) (λ u h. grown_within old.bank new.bank u grows.bank h) number by parts);
+  small = subst (EachPart (λ u. IsSmallTerm (term_at new.bank.terms u)) (λ l. Unit {0})) (sym e) (small_stays by parts small);
+  uncut = ap is_cut_use e ∙ uncut;
+  numbers = listed;
+  fits = subst (λ (b : UseByNumbers). IsInstanceBy new.bank new.lits (rows_in new) b (map (map (bank_literal new.bank.terms new.lits)) i.alternatives)) (sym e) fits;
 }
   where
     number : (l : SatLit) → IsNumberIn old.lits l → IsNumberIn new.lits l
@@ -87,3 +88,10 @@ is-made old new grows by i e principals first second term small uncut numbered f
 
     term_same : (u : ℕ) → IsPlace old.bank.terms u → term_at new.bank.terms u ≡ term_at old.bank.terms u
     term_same u h = term-stays old.bank.terms new.bank.terms (grows.bank.further, grows.bank.terms) u h
+
+    small_stays : (u : UseByNumbers) → EachPart (IsPlace old.bank.terms) (IsNumberIn old.lits) u → EachPart (λ t. IsSmallTerm (term_at old.bank.terms t)) (λ l. Unit {0}) u → EachPart (λ t. IsSmallTerm (term_at new.bank.terms t)) (λ l. Unit {0}) u
+    small_stays (AtOne rule l) h k = k
+    small_stays (AtTwo rule l m) h k = k
+    small_stays (AllPos l t) h k = subst IsSmallTerm (sym (term_same t h)) k
+    small_stays (WithPredicate rule t) h k = subst IsSmallTerm (sym (term_same t h)) k
+    small_stays (Cut l) h k = k

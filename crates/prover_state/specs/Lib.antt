@@ -25,10 +25,13 @@ pub use Rattle.stt_core.specs.Lambda
 pub use Rattle.stt_core.specs.SimpleType
 pub use Rattle.stt_core.specs.Typing
 pub use Rattle.stt_core.specs.View
+pub use Rattle.tableau_calculus.specs.CutFree
 pub use Rattle.tableau_calculus.specs.Kinds
 pub use Rattle.tableau_calculus.specs.Literals
+pub use Rattle.tableau_calculus.specs.RuleUses
 pub use Rattle.tableau_calculus.specs.Witnesses
 pub use Rattle.tableau_clauses.specs.Table
+pub use Rattle.tableau_rules.specs.Changes
 pub use Rattle.tableau_rules.specs.Uses
 pub use Rattle.term_bank.specs.Content
 pub use Rattle.term_bank.specs.Terms as TermBankTerms

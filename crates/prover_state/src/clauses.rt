@@ -101,7 +101,8 @@ pub(crate) fn add_clauses(
     make_variables(solver, atoms)?;
     let new = steps.add(instance)?;
     for n in new.start..new.end {
-        solver.add(steps.clause(n))?;
+        let clause = steps.clause(n)?;
+        solver.add(&clause)?;
     }
     Ok(())
 }

@@ -1,12 +1,13 @@
 //! Instances of rules that make no witness.
-ghost use Rattle.std.specs.Prelude.{◌≡◌, ◌≢◌, ◌<◌, ◌-◌, ◌^◌, List, length, map, IfOk, OnOk};
+ghost use Rattle.std.specs.Prelude.{◌≡◌, ◌<◌, ◌-◌, ◌^◌, List, length, map, None, false, IfOk, OnOk};
 ghost use Rattle.search_spec.specs.Each.{Each};
-ghost use Rattle.std.specs.Option.{ForSome};
+ghost use Rattle.tableau_calculus.specs.CutFree.{is_cut_use};
 ghost use Rattle.tableau_calculus.specs.Literals.{Literal};
+ghost use Rattle.tableau_calculus.specs.RuleUses.{principals_of, EachPart};
 ghost use Rattle.term_bank.specs.Terms.{term_at};
 ghost use Rattle.literal_map.specs.Atoms.{bank_literal};
-ghost use Rattle.literal_map.specs.declared.instance.RuleKind.TheVariants.{AllNeg as MakesWitness, Cut as MakesCut};
-ghost use Rattle.tableau_rules.specs.Uses.{principals_of, IsInstanceBy};
+ghost use Rattle.tableau_rules.specs.Changes.{denial_of};
+ghost use Rattle.tableau_rules.specs.Uses.{IsInstanceBy};
 ghost use Rattle.refute_print.specs.Sizes.{IsSmallTerm};
 ghost use Rattle.search_spec.specs.Instances.{with_instance};
 ghost use Rattle.prover_state.specs.Lasting.{declarations_of, lasting};
@@ -30,11 +31,10 @@ impl Basis {
         by: &BankUse,
     ) -> Result<Instance, AllocError>
         requires good { IsBasis self.old }
-        requires first { ForSome by.now.first (IsNumberIn self.old.lits) }
-        requires second { ForSome by.now.second (IsNumberIn self.old.lits) }
-        requires term { ForSome by.now.term (IsPlace self.old.bank.terms) }
+        requires principals { Each (IsNumberIn self.old.lits) (principals_of by.now) }
+        requires parts { EachPart (IsPlace self.old.bank.terms) (IsNumberIn self.old.lits) by.now }
         requires few { length self.old.witnesses < 2 ^ 32 - 1 }
-        requires kind { by.now.kind ≢ MakesWitness }
+        requires unwitnessed { denial_of by.now ≡ None }
         requires fits { (alternatives : List (List Literal)) × IsInstanceBy self.old.bank self.old.lits (rows_in self.old) by.now alternatives }
         ensures by { IfOk result (λ i. i.by ≡ by.now) }
         ensures principals { IfOk result (λ i. i.principals ≡ principals_of by.now) }
@@ -66,13 +66,12 @@ impl<W: Weigher<Waiting>> Core<W> {
     /// Adds the instance of a rule that makes no witness and is no cut. Its term, where it takes one, is small enough for a text.
     pub fn apply_rule(&mut self, by: BankUse) -> Result<(), AllocError>
         requires right { IsRightState self.old.tables self.old.plan }
-        requires first { ForSome by.first (IsNumberIn self.old.tables.basis.lits) }
-        requires second { ForSome by.second (IsNumberIn self.old.tables.basis.lits) }
-        requires term { ForSome by.term (IsPlace self.old.tables.basis.bank.terms) }
-        requires small { ForSome by.term (λ u. IsSmallTerm (term_at self.old.tables.basis.bank.terms u)) }
+        requires principals { Each (IsNumberIn self.old.tables.basis.lits) (principals_of by) }
+        requires parts { EachPart (IsPlace self.old.tables.basis.bank.terms) (IsNumberIn self.old.tables.basis.lits) by }
+        requires small { EachPart (λ u. IsSmallTerm (term_at self.old.tables.basis.bank.terms u)) (λ l. Unit {0}) by }
         requires few { length self.old.tables.basis.witnesses < 2 ^ 32 - 1 }
-        requires kind { by.kind ≢ MakesWitness }
-        requires uncut { by.kind ≢ MakesCut }
+        requires unwitnessed { denial_of by ≡ None }
+        requires uncut { is_cut_use by ≡ false }
         requires fits { (alternatives : List (List Literal)) × IsInstanceBy self.old.tables.basis.bank self.old.tables.basis.lits (rows_in self.old.tables.basis) by alternatives }
         ensures state { OnOk result ((alternatives : List (List Literal)) → IsInstanceBy self.old.tables.basis.bank self.old.tables.basis.lits (rows_in self.old.tables.basis) by alternatives
             → the_state self.new.tables self.new.plan ≡ with_instance self.old.plan.rule.mode (map (bank_literal self.old.tables.basis.bank.terms self.old.tables.basis.lits) (principals_of by)) alternatives (the_state self.old.tables self.old.plan)) }

@@ -1,7 +1,10 @@
 -- The worked examples are rebuilt.
 use Rattle.std.proofs.Common.{[], ◌∷◌, refl}
 use Rattle.stt_core.specs.Lambda.{bound, lam, app}
-use Rattle.tableau_calculus.specs.declared.refutation.RuleUse.TheVariants.{False, Close, ImpPos, ImpNeg, BoolNeg, FunNeg, AllPos, AllNeg, Cho, Des}
+use Rattle.tableau_calculus.specs.declared.rule_use.RuleUse.TheVariants.{AtOne, AtTwo, AllPos, WithPredicate}
+use Rattle.tableau_calculus.specs.declared.rule_use.OnePlace.TheVariants.{False, ImpPos, ImpNeg, BoolNeg, FunNeg, AllNeg}
+use Rattle.tableau_calculus.specs.declared.rule_use.TwoPlaces.TheVariants.{Close}
+use Rattle.tableau_calculus.specs.declared.rule_use.OfPredicate.TheVariants.{Cho, Des}
 use Rattle.tableau_calculus.specs.declared.refutation.Child.TheVariants.{Closed}
 use Rattle.sat_log.specs.declared.chain.Premise.TheVariants.{Clause, Result}
 use Rattle.rebuild_spec.specs.Trees.{at_clause, at_step, at_result, Tree, leaf, cut}
@@ -10,7 +13,7 @@ use Rattle.rebuild_spec.specs.Rebuilt.{IsRebuilt}
 use Rattle.rebuild_spec.specs.Examples.{yes, no, on, individual_type, example_name, all_p_e0, all_p_i3, all_p_input, all_p_refutation, chosen_e0, chosen_i1, chosen_input, chosen_refutation, clash_e0, clash_input, clash_refutation, demorgan_e0, demorgan_e1, demorgan_e2, demorgan_i0, demorgan_i1, demorgan_i2, demorgan_i3, demorgan_i4, demorgan_i5, demorgan_i6, demorgan_input, demorgan_refutation, eta_equal_e0, eta_equal_input, eta_equal_refutation, k_p_e0, k_p_e1, k_p_i0, k_p_i1, k_p_i2, k_p_i3, k_p_input, k_p_refutation, pointwise_e0, pointwise_i0, pointwise_input, pointwise_refutation, quoted_e0, quoted_input, quoted_refutation, the_p_e0, the_p_i0, the_p_input, the_p_predicate, the_p_refutation, true_conjecture_e0, true_conjecture_i0, true_conjecture_input, true_conjecture_refutation, unnamed_e0, unnamed_i0, unnamed_i1, unnamed_input, unnamed_refutation, ExamplesAreRebuilt}
 
 abbrev true_conjecture_t_c1 : Tree
-true_conjecture_t_c1 = leaf (at_clause 1) ((yes 0) ∷ []) (False 0) []
+true_conjecture_t_c1 = leaf (at_clause 1) ((yes 0) ∷ []) (AtOne False 0) []
 
 true_conjecture_c_1 : Stands true_conjecture_input (at_clause 1) ((no 0) ∷ []) (line true_conjecture_t_c1)
 true_conjecture_c_1 = of_instance 1 ((no 0) ∷ []) true_conjecture_i0 refl
@@ -40,7 +43,7 @@ clash_c_0 : Stands clash_input (at_clause 0) ((yes 0) ∷ []) (start 0 (yes 0))
 clash_c_0 = of_start 0 (yes 0) refl
 
 abbrev clash_t_0_1 : Tree
-clash_t_0_1 = leaf (at_step 0 1) ((yes 0) ∷ (no 0) ∷ []) (Close 0 1) []
+clash_t_0_1 = leaf (at_step 0 1) ((yes 0) ∷ (no 0) ∷ []) (AtTwo Close 0 1) []
 
 clash_s_0_1 : Stands clash_input (at_step 0 1) [] (line clash_t_0_1)
 clash_s_0_1 = of_next 0 0 clash_e0 (on 0 (Clause 0)) ((no 0) ∷ []) ((yes 0) ∷ []) [] (start 1 (no 0)) (start 0 (yes 0)) refl refl clash_s_0_0 clash_c_0 refl
@@ -88,7 +91,7 @@ eta_equal_c_0 : Stands eta_equal_input (at_clause 0) ((yes 0) ∷ []) (start 0 (
 eta_equal_c_0 = of_start 0 (yes 0) refl
 
 abbrev eta_equal_t_0_1 : Tree
-eta_equal_t_0_1 = leaf (at_step 0 1) ((yes 0) ∷ (no 0) ∷ []) (Close 0 1) []
+eta_equal_t_0_1 = leaf (at_step 0 1) ((yes 0) ∷ (no 0) ∷ []) (AtTwo Close 0 1) []
 
 eta_equal_s_0_1 : Stands eta_equal_input (at_step 0 1) [] (line eta_equal_t_0_1)
 eta_equal_s_0_1 = of_next 0 0 eta_equal_e0 (on 0 (Clause 0)) ((no 0) ∷ []) ((yes 0) ∷ []) [] (start 1 (no 0)) (start 0 (yes 0)) refl refl eta_equal_s_0_0 eta_equal_c_0 refl
@@ -100,7 +103,7 @@ pub eta_equal_rebuilt : IsRebuilt eta_equal_input eta_equal_refutation
 eta_equal_rebuilt = record { number = 0; is_last = refl; last = eta_equal_t_0_1; stands = eta_equal_r_0; lines = refl; rows = refl }
 
 abbrev pointwise_t_c2 : Tree
-pointwise_t_c2 = leaf (at_clause 2) ((no 1) ∷ (yes 0) ∷ []) (FunNeg 0) (Closed ∷ [])
+pointwise_t_c2 = leaf (at_clause 2) ((no 1) ∷ (yes 0) ∷ []) (AtOne FunNeg 0) (Closed ∷ [])
 
 pointwise_c_2 : Stands pointwise_input (at_clause 2) ((yes 1) ∷ (no 0) ∷ []) (line pointwise_t_c2)
 pointwise_c_2 = of_instance 2 ((yes 1) ∷ (no 0) ∷ []) pointwise_i0 refl
@@ -127,7 +130,7 @@ pub pointwise_rebuilt : IsRebuilt pointwise_input pointwise_refutation
 pointwise_rebuilt = record { number = 0; is_last = refl; last = pointwise_t_c2; stands = pointwise_r_0; lines = refl; rows = refl }
 
 abbrev chosen_t_c3 : Tree
-chosen_t_c3 = leaf (at_clause 3) ((no 0) ∷ (no 1) ∷ []) (Cho (lam individual_type (app (example_name 0) (bound 0)))) (Closed ∷ Closed ∷ [])
+chosen_t_c3 = leaf (at_clause 3) ((no 0) ∷ (no 1) ∷ []) (WithPredicate Cho (lam individual_type (app (example_name 0) (bound 0)))) (Closed ∷ Closed ∷ [])
 
 chosen_c_3 : Stands chosen_input (at_clause 3) ((yes 0) ∷ (yes 1) ∷ []) (line chosen_t_c3)
 chosen_c_3 = of_instance 3 ((yes 0) ∷ (yes 1) ∷ []) chosen_i1 refl
@@ -163,7 +166,7 @@ quoted_c_0 : Stands quoted_input (at_clause 0) ((yes 0) ∷ []) (start 0 (yes 0)
 quoted_c_0 = of_start 0 (yes 0) refl
 
 abbrev quoted_t_0_1 : Tree
-quoted_t_0_1 = leaf (at_step 0 1) ((yes 0) ∷ (no 0) ∷ []) (Close 0 1) []
+quoted_t_0_1 = leaf (at_step 0 1) ((yes 0) ∷ (no 0) ∷ []) (AtTwo Close 0 1) []
 
 quoted_s_0_1 : Stands quoted_input (at_step 0 1) [] (line quoted_t_0_1)
 quoted_s_0_1 = of_next 0 0 quoted_e0 (on 0 (Clause 0)) ((no 0) ∷ []) ((yes 0) ∷ []) [] (start 1 (no 0)) (start 0 (yes 0)) refl refl quoted_s_0_0 quoted_c_0 refl
@@ -175,7 +178,7 @@ pub quoted_rebuilt : IsRebuilt quoted_input quoted_refutation
 quoted_rebuilt = record { number = 0; is_last = refl; last = quoted_t_0_1; stands = quoted_r_0; lines = refl; rows = refl }
 
 abbrev unnamed_t_c1 : Tree
-unnamed_t_c1 = leaf (at_clause 1) ((no 0) ∷ (no 1) ∷ []) (AllNeg 0) (Closed ∷ [])
+unnamed_t_c1 = leaf (at_clause 1) ((no 0) ∷ (no 1) ∷ []) (AtOne AllNeg 0) (Closed ∷ [])
 
 unnamed_c_1 : Stands unnamed_input (at_clause 1) ((yes 0) ∷ (yes 1) ∷ []) (line unnamed_t_c1)
 unnamed_c_1 = of_instance 1 ((yes 0) ∷ (yes 1) ∷ []) unnamed_i0 refl
@@ -184,7 +187,7 @@ unnamed_s_0_0 : Stands unnamed_input (at_step 0 0) ((yes 0) ∷ (yes 1) ∷ []) 
 unnamed_s_0_0 = of_first 0 unnamed_e0 ((yes 0) ∷ (yes 1) ∷ []) (line unnamed_t_c1) refl unnamed_c_1
 
 abbrev unnamed_t_c2 : Tree
-unnamed_t_c2 = leaf (at_clause 2) ((yes 1) ∷ []) (False 0) []
+unnamed_t_c2 = leaf (at_clause 2) ((yes 1) ∷ []) (AtOne False 0) []
 
 unnamed_c_2 : Stands unnamed_input (at_clause 2) ((no 1) ∷ []) (line unnamed_t_c2)
 unnamed_c_2 = of_instance 2 ((no 1) ∷ []) unnamed_i1 refl
@@ -208,7 +211,7 @@ pub unnamed_rebuilt : IsRebuilt unnamed_input unnamed_refutation
 unnamed_rebuilt = record { number = 0; is_last = refl; last = unnamed_t_0_1; stands = unnamed_r_0; lines = refl; rows = refl }
 
 abbrev k_p_t_c7 : Tree
-k_p_t_c7 = leaf (at_clause 7) ((yes 3) ∷ (yes 4) ∷ (yes 5) ∷ []) (ImpPos 0) (Closed ∷ Closed ∷ [])
+k_p_t_c7 = leaf (at_clause 7) ((yes 3) ∷ (yes 4) ∷ (yes 5) ∷ []) (AtOne ImpPos 0) (Closed ∷ Closed ∷ [])
 
 k_p_c_7 : Stands k_p_input (at_clause 7) ((no 3) ∷ (no 4) ∷ (no 5) ∷ []) (line k_p_t_c7)
 k_p_c_7 = of_instance 7 ((no 3) ∷ (no 4) ∷ (no 5) ∷ []) k_p_i3 refl
@@ -217,7 +220,7 @@ k_p_s_1_0 : Stands k_p_input (at_step 1 0) ((no 3) ∷ (no 4) ∷ (no 5) ∷ [])
 k_p_s_1_0 = of_first 1 k_p_e1 ((no 3) ∷ (no 4) ∷ (no 5) ∷ []) (line k_p_t_c7) refl k_p_c_7
 
 abbrev k_p_t_c6 : Tree
-k_p_t_c6 = leaf (at_clause 6) ((yes 2) ∷ (yes 4) ∷ (no 5) ∷ []) (ImpPos 0) (Closed ∷ Closed ∷ [])
+k_p_t_c6 = leaf (at_clause 6) ((yes 2) ∷ (yes 4) ∷ (no 5) ∷ []) (AtOne ImpPos 0) (Closed ∷ Closed ∷ [])
 
 k_p_c_6 : Stands k_p_input (at_clause 6) ((no 2) ∷ (no 4) ∷ (yes 5) ∷ []) (line k_p_t_c6)
 k_p_c_6 = of_instance 6 ((no 2) ∷ (no 4) ∷ (yes 5) ∷ []) k_p_i2 refl
@@ -229,7 +232,7 @@ k_p_s_1_1 : Stands k_p_input (at_step 1 1) ((no 2) ∷ (no 4) ∷ (no 3) ∷ [])
 k_p_s_1_1 = of_next 1 0 k_p_e1 (on 5 (Clause 6)) ((no 3) ∷ (no 4) ∷ (no 5) ∷ []) ((no 2) ∷ (no 4) ∷ (yes 5) ∷ []) ((no 2) ∷ (no 4) ∷ (no 3) ∷ []) (line k_p_t_c7) (line k_p_t_c6) refl refl k_p_s_1_0 k_p_c_6 refl
 
 abbrev k_p_t_c5 : Tree
-k_p_t_c5 = leaf (at_clause 5) ((yes 1) ∷ (no 4) ∷ (yes 5) ∷ []) (ImpPos 0) (Closed ∷ Closed ∷ [])
+k_p_t_c5 = leaf (at_clause 5) ((yes 1) ∷ (no 4) ∷ (yes 5) ∷ []) (AtOne ImpPos 0) (Closed ∷ Closed ∷ [])
 
 k_p_c_5 : Stands k_p_input (at_clause 5) ((no 1) ∷ (yes 4) ∷ (no 5) ∷ []) (line k_p_t_c5)
 k_p_c_5 = of_instance 5 ((no 1) ∷ (yes 4) ∷ (no 5) ∷ []) k_p_i1 refl
@@ -238,7 +241,7 @@ k_p_s_0_0 : Stands k_p_input (at_step 0 0) ((no 1) ∷ (yes 4) ∷ (no 5) ∷ []
 k_p_s_0_0 = of_first 0 k_p_e0 ((no 1) ∷ (yes 4) ∷ (no 5) ∷ []) (line k_p_t_c5) refl k_p_c_5
 
 abbrev k_p_t_c4 : Tree
-k_p_t_c4 = leaf (at_clause 4) ((yes 0) ∷ (no 4) ∷ (no 5) ∷ []) (ImpPos 0) (Closed ∷ Closed ∷ [])
+k_p_t_c4 = leaf (at_clause 4) ((yes 0) ∷ (no 4) ∷ (no 5) ∷ []) (AtOne ImpPos 0) (Closed ∷ Closed ∷ [])
 
 k_p_c_4 : Stands k_p_input (at_clause 4) ((no 0) ∷ (yes 4) ∷ (yes 5) ∷ []) (line k_p_t_c4)
 k_p_c_4 = of_instance 4 ((no 0) ∷ (yes 4) ∷ (yes 5) ∷ []) k_p_i0 refl
@@ -289,7 +292,7 @@ pub k_p_rebuilt : IsRebuilt k_p_input k_p_refutation
 k_p_rebuilt = record { number = 1; is_last = refl; last = k_p_t_1_2; stands = k_p_r_1; lines = refl; rows = refl }
 
 abbrev demorgan_t_c7 : Tree
-demorgan_t_c7 = leaf (at_clause 7) ((no 4) ∷ (no 6) ∷ []) (ImpNeg 0) (Closed ∷ [])
+demorgan_t_c7 = leaf (at_clause 7) ((no 4) ∷ (no 6) ∷ []) (AtOne ImpNeg 0) (Closed ∷ [])
 
 demorgan_c_7 : Stands demorgan_input (at_clause 7) ((yes 4) ∷ (yes 6) ∷ []) (line demorgan_t_c7)
 demorgan_c_7 = of_instance 7 ((yes 4) ∷ (yes 6) ∷ []) demorgan_i4 refl
@@ -298,7 +301,7 @@ demorgan_s_2_0 : Stands demorgan_input (at_step 2 0) ((yes 4) ∷ (yes 6) ∷ []
 demorgan_s_2_0 = of_first 2 demorgan_e2 ((yes 4) ∷ (yes 6) ∷ []) (line demorgan_t_c7) refl demorgan_c_7
 
 abbrev demorgan_t_c5 : Tree
-demorgan_t_c5 = leaf (at_clause 5) ((yes 3) ∷ (yes 5) ∷ (yes 6) ∷ []) (ImpPos 0) (Closed ∷ Closed ∷ [])
+demorgan_t_c5 = leaf (at_clause 5) ((yes 3) ∷ (yes 5) ∷ (yes 6) ∷ []) (AtOne ImpPos 0) (Closed ∷ Closed ∷ [])
 
 demorgan_c_5 : Stands demorgan_input (at_clause 5) ((no 3) ∷ (no 5) ∷ (no 6) ∷ []) (line demorgan_t_c5)
 demorgan_c_5 = of_instance 5 ((no 3) ∷ (no 5) ∷ (no 6) ∷ []) demorgan_i3 refl
@@ -310,7 +313,7 @@ demorgan_s_2_1 : Stands demorgan_input (at_step 2 1) ((yes 4) ∷ (no 3) ∷ (no
 demorgan_s_2_1 = of_next 2 0 demorgan_e2 (on 6 (Clause 5)) ((yes 4) ∷ (yes 6) ∷ []) ((no 3) ∷ (no 5) ∷ (no 6) ∷ []) ((yes 4) ∷ (no 3) ∷ (no 5) ∷ []) (line demorgan_t_c7) (line demorgan_t_c5) refl refl demorgan_s_2_0 demorgan_c_5 refl
 
 abbrev demorgan_t_c4 : Tree
-demorgan_t_c4 = leaf (at_clause 4) ((no 2) ∷ (yes 4) ∷ (yes 3) ∷ []) (BoolNeg 0) (Closed ∷ Closed ∷ [])
+demorgan_t_c4 = leaf (at_clause 4) ((no 2) ∷ (yes 4) ∷ (yes 3) ∷ []) (AtOne BoolNeg 0) (Closed ∷ Closed ∷ [])
 
 demorgan_c_4 : Stands demorgan_input (at_clause 4) ((yes 2) ∷ (no 4) ∷ (no 3) ∷ []) (line demorgan_t_c4)
 demorgan_c_4 = of_instance 4 ((yes 2) ∷ (no 4) ∷ (no 3) ∷ []) demorgan_i2 refl
@@ -322,7 +325,7 @@ demorgan_s_2_2 : Stands demorgan_input (at_step 2 2) ((no 3) ∷ (no 5) ∷ (yes
 demorgan_s_2_2 = of_next 2 1 demorgan_e2 (on 4 (Clause 4)) ((yes 4) ∷ (no 3) ∷ (no 5) ∷ []) ((yes 2) ∷ (no 4) ∷ (no 3) ∷ []) ((no 3) ∷ (no 5) ∷ (yes 2) ∷ []) (line demorgan_t_2_1) (line demorgan_t_c4) refl refl demorgan_s_2_1 demorgan_c_4 refl
 
 abbrev demorgan_t_c10 : Tree
-demorgan_t_c10 = leaf (at_clause 10) ((yes 4) ∷ (yes 5) ∷ (yes 6) ∷ []) (ImpPos 0) (Closed ∷ Closed ∷ [])
+demorgan_t_c10 = leaf (at_clause 10) ((yes 4) ∷ (yes 5) ∷ (yes 6) ∷ []) (AtOne ImpPos 0) (Closed ∷ Closed ∷ [])
 
 demorgan_c_10 : Stands demorgan_input (at_clause 10) ((no 4) ∷ (no 5) ∷ (no 6) ∷ []) (line demorgan_t_c10)
 demorgan_c_10 = of_instance 10 ((no 4) ∷ (no 5) ∷ (no 6) ∷ []) demorgan_i6 refl
@@ -331,7 +334,7 @@ demorgan_s_1_0 : Stands demorgan_input (at_step 1 0) ((no 4) ∷ (no 5) ∷ (no 
 demorgan_s_1_0 = of_first 1 demorgan_e1 ((no 4) ∷ (no 5) ∷ (no 6) ∷ []) (line demorgan_t_c10) refl demorgan_c_10
 
 abbrev demorgan_t_c9 : Tree
-demorgan_t_c9 = leaf (at_clause 9) ((no 3) ∷ (no 6) ∷ []) (ImpNeg 0) (Closed ∷ [])
+demorgan_t_c9 = leaf (at_clause 9) ((no 3) ∷ (no 6) ∷ []) (AtOne ImpNeg 0) (Closed ∷ [])
 
 demorgan_c_9 : Stands demorgan_input (at_clause 9) ((yes 3) ∷ (yes 6) ∷ []) (line demorgan_t_c9)
 demorgan_c_9 = of_instance 9 ((yes 3) ∷ (yes 6) ∷ []) demorgan_i5 refl
@@ -343,7 +346,7 @@ demorgan_s_1_1 : Stands demorgan_input (at_step 1 1) ((yes 3) ∷ (no 4) ∷ (no
 demorgan_s_1_1 = of_next 1 0 demorgan_e1 (on 6 (Clause 9)) ((no 4) ∷ (no 5) ∷ (no 6) ∷ []) ((yes 3) ∷ (yes 6) ∷ []) ((yes 3) ∷ (no 4) ∷ (no 5) ∷ []) (line demorgan_t_c10) (line demorgan_t_c9) refl refl demorgan_s_1_0 demorgan_c_9 refl
 
 abbrev demorgan_t_c3 : Tree
-demorgan_t_c3 = leaf (at_clause 3) ((no 2) ∷ (no 3) ∷ (no 4) ∷ []) (BoolNeg 0) (Closed ∷ Closed ∷ [])
+demorgan_t_c3 = leaf (at_clause 3) ((no 2) ∷ (no 3) ∷ (no 4) ∷ []) (AtOne BoolNeg 0) (Closed ∷ Closed ∷ [])
 
 demorgan_c_3 : Stands demorgan_input (at_clause 3) ((yes 2) ∷ (yes 3) ∷ (yes 4) ∷ []) (line demorgan_t_c3)
 demorgan_c_3 = of_instance 3 ((yes 2) ∷ (yes 3) ∷ (yes 4) ∷ []) demorgan_i2 refl
@@ -358,7 +361,7 @@ demorgan_s_0_0 : Stands demorgan_input (at_step 0 0) ((yes 2) ∷ (no 4) ∷ (no
 demorgan_s_0_0 = of_first 0 demorgan_e0 ((yes 2) ∷ (no 4) ∷ (no 3) ∷ []) (line demorgan_t_c4) refl demorgan_c_4
 
 abbrev demorgan_t_c8 : Tree
-demorgan_t_c8 = leaf (at_clause 8) ((no 3) ∷ (no 5) ∷ []) (ImpNeg 0) (Closed ∷ [])
+demorgan_t_c8 = leaf (at_clause 8) ((no 3) ∷ (no 5) ∷ []) (AtOne ImpNeg 0) (Closed ∷ [])
 
 demorgan_c_8 : Stands demorgan_input (at_clause 8) ((yes 3) ∷ (yes 5) ∷ []) (line demorgan_t_c8)
 demorgan_c_8 = of_instance 8 ((yes 3) ∷ (yes 5) ∷ []) demorgan_i5 refl
@@ -370,7 +373,7 @@ demorgan_s_0_1 : Stands demorgan_input (at_step 0 1) ((yes 5) ∷ (yes 2) ∷ (n
 demorgan_s_0_1 = of_next 0 0 demorgan_e0 (on 3 (Clause 8)) ((yes 2) ∷ (no 4) ∷ (no 3) ∷ []) ((yes 3) ∷ (yes 5) ∷ []) ((yes 5) ∷ (yes 2) ∷ (no 4) ∷ []) (line demorgan_t_c4) (line demorgan_t_c8) refl refl demorgan_s_0_0 demorgan_c_8 refl
 
 abbrev demorgan_t_c6 : Tree
-demorgan_t_c6 = leaf (at_clause 6) ((no 4) ∷ (no 5) ∷ []) (ImpNeg 0) (Closed ∷ [])
+demorgan_t_c6 = leaf (at_clause 6) ((no 4) ∷ (no 5) ∷ []) (AtOne ImpNeg 0) (Closed ∷ [])
 
 demorgan_c_6 : Stands demorgan_input (at_clause 6) ((yes 4) ∷ (yes 5) ∷ []) (line demorgan_t_c6)
 demorgan_c_6 = of_instance 6 ((yes 4) ∷ (yes 5) ∷ []) demorgan_i4 refl
@@ -382,7 +385,7 @@ demorgan_s_0_2 : Stands demorgan_input (at_step 0 2) ((yes 5) ∷ (yes 2) ∷ []
 demorgan_s_0_2 = of_next 0 1 demorgan_e0 (on 4 (Clause 6)) ((yes 5) ∷ (yes 2) ∷ (no 4) ∷ []) ((yes 4) ∷ (yes 5) ∷ []) ((yes 5) ∷ (yes 2) ∷ []) (line demorgan_t_0_1) (line demorgan_t_c6) refl refl demorgan_s_0_1 demorgan_c_6 refl
 
 abbrev demorgan_t_c2 : Tree
-demorgan_t_c2 = leaf (at_clause 2) ((no 1) ∷ (yes 2) ∷ []) (AllNeg 0) (Closed ∷ [])
+demorgan_t_c2 = leaf (at_clause 2) ((no 1) ∷ (yes 2) ∷ []) (AtOne AllNeg 0) (Closed ∷ [])
 
 demorgan_c_2 : Stands demorgan_input (at_clause 2) ((yes 1) ∷ (no 2) ∷ []) (line demorgan_t_c2)
 demorgan_c_2 = of_instance 2 ((yes 1) ∷ (no 2) ∷ []) demorgan_i1 refl
@@ -394,7 +397,7 @@ demorgan_s_0_3 : Stands demorgan_input (at_step 0 3) ((yes 5) ∷ (yes 1) ∷ []
 demorgan_s_0_3 = of_next 0 2 demorgan_e0 (on 2 (Clause 2)) ((yes 5) ∷ (yes 2) ∷ []) ((yes 1) ∷ (no 2) ∷ []) ((yes 5) ∷ (yes 1) ∷ []) (line demorgan_t_0_2) (line demorgan_t_c2) refl refl demorgan_s_0_2 demorgan_c_2 refl
 
 abbrev demorgan_t_c1 : Tree
-demorgan_t_c1 = leaf (at_clause 1) ((no 0) ∷ (yes 1) ∷ []) (AllNeg 0) (Closed ∷ [])
+demorgan_t_c1 = leaf (at_clause 1) ((no 0) ∷ (yes 1) ∷ []) (AtOne AllNeg 0) (Closed ∷ [])
 
 demorgan_c_1 : Stands demorgan_input (at_clause 1) ((yes 0) ∷ (no 1) ∷ []) (line demorgan_t_c1)
 demorgan_c_1 = of_instance 1 ((yes 0) ∷ (no 1) ∷ []) demorgan_i0 refl
@@ -472,7 +475,7 @@ pub demorgan_rebuilt : IsRebuilt demorgan_input demorgan_refutation
 demorgan_rebuilt = record { number = 2; is_last = refl; last = demorgan_t_2_6; stands = demorgan_r_2; lines = refl; rows = refl }
 
 abbrev the_p_t_c3 : Tree
-the_p_t_c3 = leaf (at_clause 3) (no 0 ∷ yes 1 ∷ no 2 ∷ []) (Des the_p_predicate) (Closed ∷ Closed ∷ Closed ∷ [])
+the_p_t_c3 = leaf (at_clause 3) (no 0 ∷ yes 1 ∷ no 2 ∷ []) (WithPredicate Des the_p_predicate) (Closed ∷ Closed ∷ Closed ∷ [])
 
 the_p_s_0_0 : Stands the_p_input (at_step 0 0) (yes 0 ∷ no 1 ∷ yes 2 ∷ []) (line the_p_t_c3)
 the_p_s_0_0 = of_first 0 the_p_e0 (yes 0 ∷ no 1 ∷ yes 2 ∷ []) (line the_p_t_c3) refl (of_instance 3 (yes 0 ∷ no 1 ∷ yes 2 ∷ []) the_p_i0 refl)

@@ -4,10 +4,10 @@ use Rattle.std.proofs.lemmas.Bool.{and_parts, or_cases}
 use Rattle.stt_core.specs.Typing.{Scope}
 use Rattle.stt_core.specs.Lambda.{Lambda}
 use Rattle.tableau_calculus.specs.Literals.{Literal, opposite}
-use Rattle.tableau_calculus.specs.Rules.{Rule, cut_rule}
+use Rattle.tableau_calculus.specs.Rules.{PlainRule, Rule, cut_rule}
 use Rattle.tableau_calculus.specs.Witnesses.{Row, with_rows}
-use Rattle.tableau_calculus.specs.declared.refutation.RuleUse.{RuleUse}
-use Rattle.tableau_calculus.specs.declared.refutation.RuleUse.TheVariants.{Close, Cut}
+use Rattle.tableau_calculus.specs.declared.rule_use.RuleUse.TheVariants.{AtTwo, Cut}
+use Rattle.tableau_calculus.specs.declared.rule_use.TwoPlaces.TheVariants.{Close}
 use Rattle.tableau_calculus.specs.declared.refutation.Child.{Child}
 use Rattle.tableau_calculus.proofs.ListLaws.{contains-first, contains_cases}
 use Rattle.sat_base.specs.declared.literal.Var.{Var}
@@ -72,10 +72,10 @@ module _ (input : Input) where
   variables_occur p c s (of_result n entry d t e j) m h = variables_occur (at_step n (length entry.chain.steps)) d t j m h
 
   -- two start units close each other
-  pub record AreUnits (Start : SatLit → Type 0) (ls : List SatLit) (rule : RuleUse) : Type 0 where
+  pub record AreUnits (Start : SatLit → Type 0) (ls : List SatLit) (rule : PlainRule) : Type 0 where
     pub first : SatLit
     pub second : SatLit
-    pub is_rule : rule ≡ Close 0 1
+    pub is_rule : rule ≡ AtTwo Close 0 1
     pub are : ls ≡ first ∷ second ∷ []
     pub first_start : Start first
     pub second_start : Start second
@@ -89,7 +89,7 @@ module _ (input : Input) where
     pub are : ls ≡ map negated clause
 
   -- where a line of this rule comes from that rests on no other
-  abbrev pub IsLeafBy : RuleUse → (SatLit → Type 0) → List SatLit → Type 0
+  abbrev pub IsLeafBy : PlainRule → (SatLit → Type 0) → List SatLit → Type 0
   IsLeafBy (Cut l) Start ls = IsAtomOfInput input l.atom
   IsLeafBy rule Start ls = AreUnits Start ls rule ⊎ IsNegated ls
 
@@ -97,20 +97,20 @@ module _ (input : Input) where
   IsFrom Start (leaf p ls rule children) = IsLeafBy rule Start ls
   IsFrom Start (cut p v t u) = OccursInInput input v
 
-  leaf_by : (Start : SatLit → Type 0) (ls : List SatLit) (rule : RuleUse) → ((l : Literal) → rule ≡ Cut l → IsAtomOfInput input l.atom) → IsNegated ls → IsLeafBy rule Start ls
+  leaf_by : (Start : SatLit → Type 0) (ls : List SatLit) (rule : PlainRule) → ((l : Literal) → rule ≡ Cut l → IsAtomOfInput input l.atom) → IsNegated ls → IsLeafBy rule Start ls
   leaf_by Start ls (Cut l) atom negated = atom l refl
   leaf_by Start ls rule atom negated = inr negated
 
 -- A CLAUSE OF A CUT
 
 -- a rule at other places is a cut only where it is one
-placed_cut : (rule : RuleUse) (is : List ℕ) (l : Literal) → rule_at_places rule is ≡ Cut l → rule ≡ Cut l
+placed_cut : (rule : PlainRule) (is : List ℕ) (l : Literal) → rule_at_places rule is ≡ Cut l → rule ≡ Cut l
 placed_cut (Cut k) is l e = e
 placed_cut rule [] l e = cc
 placed_cut rule (i ∷ []) l e = cc
 placed_cut rule (i ∷ j ∷ is) l e = cc
 
-cut_alternatives : (scope : Scope) (rows : List Row) (rule : RuleUse) (principals : List Literal) (alternatives : List (List Literal)) (l : Literal) → Rule scope rows rule principals alternatives → rule ≡ Cut l → alternatives ≡ (l ∷ []) ∷ (opposite l ∷ []) ∷ []
+cut_alternatives : (scope : Scope) (rows : List Row) (rule : PlainRule) (principals : List Literal) (alternatives : List (List Literal)) (l : Literal) → Rule scope rows rule principals alternatives → rule ≡ Cut l → alternatives ≡ (l ∷ []) ∷ (opposite l ∷ []) ∷ []
 cut_alternatives scope rows rule principals alternatives l (cut_rule k h) e = let same : k ≡ l = cc in ap (λ x. (x ∷ []) ∷ (opposite x ∷ []) ∷ []) same
 cut_alternatives scope rows rule principals alternatives l fits e = cc
 
@@ -158,7 +158,7 @@ module _ (scope : Scope) (begin : List Literal) (input : Input) (given : IsGiven
   joined_from : (p : Place) (v : Var) (s t : Standing) → OccursInInput input v → StartsRight s → StartsRight t → AreFrom s → AreFrom t → AreFrom (joined_standing p v s t)
   joined_from p v (start m l) (start n k) occurs given also first second = go (nat_lt m n)
     where
-      go : (b : Bool) → AreUnits input Start (if b then l ∷ k ∷ [] else k ∷ l ∷ []) (Close 0 1) ⊎ IsNegated input (if b then l ∷ k ∷ [] else k ∷ l ∷ [])
+      go : (b : Bool) → AreUnits input Start (if b then l ∷ k ∷ [] else k ∷ l ∷ []) (AtTwo Close 0 1) ⊎ IsNegated input (if b then l ∷ k ∷ [] else k ∷ l ∷ [])
       go true = inl (record { first = l; second = k; is_rule = refl; are = refl; first_start = given; second_start = also })
       go false = inl (record { first = k; second = l; is_rule = refl; are = refl; first_start = also; second_start = given })
   joined_from p v (start m l) (line t) occurs given also first second = second
@@ -192,7 +192,7 @@ module _ (scope : Scope) (begin : List Literal) (input : Input) (given : IsGiven
   pub lines_from_search : (p : Place) (c : List SatLit) (t : Tree) → Stands input p c (line t) → IsEach IsFromThere t
   lines_from_search p c t h = are_from p c (line t) h
 
-  leaf_from : (trees : List Tree) (p : Place) (ls : List SatLit) (rule : RuleUse) (children : List Child) → IsLeafBy input rule Start ls → IsFromSearch begin input (line_of input.atoms trees (leaf p ls rule children))
+  leaf_from : (trees : List Tree) (p : Place) (ls : List SatLit) (rule : PlainRule) (children : List Child) → IsLeafBy input rule Start ls → IsFromSearch begin input (line_of input.atoms trees (leaf p ls rule children))
   leaf_from trees p ls (Cut l) children h = h
   leaf_from trees p ls rule children (inl h) =
       inl (record { first = literal_at input.atoms h.first; second = literal_at input.atoms h.second; rule = h.is_rule; branch = ap (literals_of input.atoms) h.are; first_in = h.first_start; second_in = h.second_start })

@@ -6,9 +6,9 @@ use Rattle.stt_core.specs.Lambda.{Lambda}
 use Rattle.stt_core.specs.Typing.{Scope}
 use Rattle.tableau_calculus.specs.Literals.{Literal}
 use Rattle.tableau_calculus.specs.Witnesses.{Row}
-use Rattle.tableau_calculus.specs.Rules.{Rule, places, AreAt, IsInstance, false_rule, close_rule, refl_rule, imp_pos_rule, imp_neg_rule, bool_pos_rule, bool_neg_rule, fun_pos_rule, fun_neg_rule, all_pos_rule, all_neg_rule, mat_rule, dec_rule, con_rule, cho_rule, des_rule, cut_rule}
+use Rattle.tableau_calculus.specs.RuleUses.{principals_of}
+use Rattle.tableau_calculus.specs.Rules.{PlainRule, Rule, AreAt, IsInstance, false_rule, close_rule, refl_rule, imp_pos_rule, imp_neg_rule, bool_pos_rule, bool_neg_rule, fun_pos_rule, fun_neg_rule, all_pos_rule, all_neg_rule, mat_rule, dec_rule, con_rule, cho_rule, des_rule, cut_rule}
 use Rattle.tableau_calculus.specs.Accepted.{IsTypedUse}
-use Rattle.tableau_calculus.specs.declared.refutation.RuleUse.{RuleUse}
 use Rattle.sat_base.specs.declared.literal.SatLit.{SatLit}
 use Rattle.sat_base.specs.Literal.{same_literal, holds}
 use Rattle.sat_base.proofs.LiteralLaws.{same_literal-refl}
@@ -34,11 +34,11 @@ module _ (scope : Scope) (rows : List Row) (atoms : List Lambda) (at : SatLit �
   two_literals (p ∷ q ∷ r ∷ ps) l k e = cc
 
   -- the rule fits at these places
-  abbrev IsPlacedRule : RuleUse → List Literal → List (List Literal) → List SatLit → Type 0
-  IsPlacedRule rule ls alternatives ps = (places (rule_at_places rule (map at ps)) ≡ map at ps) × Rule scope rows (rule_at_places rule (map at ps)) ls alternatives
+  abbrev IsPlacedRule : PlainRule → List Literal → List (List Literal) → List SatLit → Type 0
+  IsPlacedRule rule ls alternatives ps = (principals_of (rule_at_places rule (map at ps)) ≡ map at ps) × Rule scope rows (rule_at_places rule (map at ps)) ls alternatives
 
   -- a rule fits at whichever places of its principals
-  pub placed_fits : (rule : RuleUse) (ls : List Literal) (alternatives : List (List Literal)) → Rule scope rows rule ls alternatives → (ps : List SatLit) → literals_of atoms ps ≡ ls → IsPlacedRule rule ls alternatives ps
+  pub placed_fits : (rule : PlainRule) (ls : List Literal) (alternatives : List (List Literal)) → Rule scope rows rule ls alternatives → (ps : List SatLit) → literals_of atoms ps ≡ ls → IsPlacedRule rule ls alternatives ps
   placed_fits rule ls alternatives (false_rule i) ps e = let o = one_literal ps _ e in subst (IsPlacedRule rule ls alternatives) (sym o.1) (refl, false_rule (at o.0))
   placed_fits rule ls alternatives (close_rule i j l) ps e = let o = two_literals ps _ _ e in subst (IsPlacedRule rule ls alternatives) (sym o.2) (refl, close_rule (at o.0) (at o.1) l)
   placed_fits rule ls alternatives (refl_rule i a s) ps e = let o = one_literal ps _ e in subst (IsPlacedRule rule ls alternatives) (sym o.1) (refl, refl_rule (at o.0) a s)
@@ -59,24 +59,12 @@ module _ (scope : Scope) (rows : List Row) (atoms : List Lambda) (at : SatLit �
 
 module _ (scope : Scope) (rows : List Row) where
   -- what a rule takes beside its principals has its type
-  pub fits_typed : (rule : RuleUse) (principals : List Literal) (alternatives : List (List Literal)) → Rule scope rows rule principals alternatives → IsTypedUse scope rule
-  fits_typed rule principals alternatives (false_rule i) = tt
-  fits_typed rule principals alternatives (close_rule i j l) = tt
-  fits_typed rule principals alternatives (refl_rule i a s) = tt
-  fits_typed rule principals alternatives (imp_pos_rule i s t) = tt
-  fits_typed rule principals alternatives (imp_neg_rule i s t) = tt
-  fits_typed rule principals alternatives (bool_pos_rule i s t) = tt
-  fits_typed rule principals alternatives (bool_neg_rule i s t) = tt
-  fits_typed rule principals alternatives (fun_pos_rule i a b s t) = tt
-  fits_typed rule principals alternatives (fun_neg_rule i a b s t) = tt
+  pub fits_typed : (rule : PlainRule) (principals : List Literal) (alternatives : List (List Literal)) → Rule scope rows rule principals alternatives → IsTypedUse scope rule
   fits_typed rule principals alternatives (all_pos_rule i a f u h) = (a, h)
-  fits_typed rule principals alternatives (all_neg_rule i k a f h) = tt
-  fits_typed rule principals alternatives (mat_rule i j c a s t ss ts h0 h1) = tt
-  fits_typed rule principals alternatives (dec_rule i n c a s t ss ts h0 h1) = tt
-  fits_typed rule principals alternatives (con_rule i j n s t u v) = tt
   fits_typed rule principals alternatives (cho_rule a f h) = (a, h)
   fits_typed rule principals alternatives (des_rule a f h) = (a, h)
   fits_typed rule principals alternatives (cut_rule l h) = h
+  fits_typed rule principals alternatives fits = tt
 
   module _ (atoms : List Lambda) where
     -- principals stand at the places that are found for them
@@ -88,7 +76,7 @@ module _ (scope : Scope) (rows : List Row) where
     )
 
     -- the rule with the places that are found for its principals has an instance in the branch
-    pub instance_placed : (branch principals : List SatLit) (rule : RuleUse) (alternatives : List (List Literal)) → Rule scope rows rule (literals_of atoms principals) alternatives → ((l : SatLit) → holds principals l ≡ true → holds branch l ≡ true) → IsInstance scope rows (literals_of atoms branch) (rule_at_places rule (map (place_in branch) principals)) alternatives
+    pub instance_placed : (branch principals : List SatLit) (rule : PlainRule) (alternatives : List (List Literal)) → Rule scope rows rule (literals_of atoms principals) alternatives → ((l : SatLit) → holds principals l ≡ true → holds branch l ≡ true) → IsInstance scope rows (literals_of atoms branch) (rule_at_places rule (map (place_in branch) principals)) alternatives
     instance_placed branch principals rule alternatives fits within =
         let found = placed_fits scope rows atoms (place_in branch) rule (literals_of atoms principals) alternatives fits principals refl in
         record {

@@ -6,10 +6,10 @@ use Rattle.stt_core.specs.Lambda.{Lambda}
 use Rattle.stt_core.specs.Typing.{Scope}
 use Rattle.tableau_calculus.specs.Literals.{Literal, opposite}
 use Rattle.tableau_calculus.specs.Witnesses.{Row, with_rows}
-use Rattle.tableau_calculus.specs.Rules.{IsInstance, close_rule}
+use Rattle.tableau_calculus.specs.Rules.{PlainRule, IsInstance, close_rule}
 use Rattle.tableau_calculus.specs.Accepted.{IsTypedUse, AreChildren}
-use Rattle.tableau_calculus.specs.declared.refutation.RuleUse.{RuleUse}
-use Rattle.tableau_calculus.specs.declared.refutation.RuleUse.TheVariants.{Close}
+use Rattle.tableau_calculus.specs.declared.rule_use.RuleUse.TheVariants.{AtTwo}
+use Rattle.tableau_calculus.specs.declared.rule_use.TwoPlaces.TheVariants.{Close}
 use Rattle.tableau_calculus.specs.declared.refutation.Child.{Child}
 use Rattle.tableau_calculus.specs.declared.refutation.Child.TheVariants.{Closed}
 use Rattle.tableau_calculus.specs.declared.refutation.Line.{Line}
@@ -32,7 +32,7 @@ use Rattle.rebuild_spec.proofs.PlacedLaws.{fits_typed, instance_placed}
 
 module _ (scope : Scope) (rows : List Row) (atoms : List Lambda) where
   -- a line that rests on no other is right
-  pub record IsRightLeaf (ls : List SatLit) (rule : RuleUse) (children : List Child) : Type 0 where
+  pub record IsRightLeaf (ls : List SatLit) (rule : PlainRule) (children : List Child) : Type 0 where
     pub typed : IsTypedUse scope rule
     pub alternatives : List (List Literal)
     pub instance : IsInstance scope rows (literals_of atoms ls) rule alternatives
@@ -95,7 +95,7 @@ module _ (scope : Scope) (rows : List Row) (atoms : List Lambda) where
     IsRight c (start n l) = (c ≡ l ∷ []) × Start l
     IsRight c (line t) = Backed Start c (branch t) × HasRightLeaves t
 
-    pair_right : (c : List SatLit) (x y : SatLit) → Start x → Start y → literal_at atoms y ≡ opposite (literal_at atoms x) → Backed Start c (x ∷ y ∷ []) × IsRightLeaf (x ∷ y ∷ []) (Close 0 1) []
+    pair_right : (c : List SatLit) (x y : SatLit) → Start x → Start y → literal_at atoms y ≡ opposite (literal_at atoms x) → Backed Start c (x ∷ y ∷ []) × IsRightLeaf (x ∷ y ∷ []) (AtTwo Close 0 1) []
     pair_right c x y first second e = (
       λ m h. elim (or_cases (same_literal m x) (holds (y ∷ []) m) h) [
         | inl here ↦ inl (subst Start (sym (same_literal-true m x here)) first)
@@ -116,7 +116,7 @@ module _ (scope : Scope) (rows : List Row) (atoms : List Lambda) where
         go (nat_lt m n) (ap (λ x. opposite (literal_at atoms x)) first) (ap (literal_at atoms) second) (ap (literal_at atoms) first) (ap (λ x. opposite (literal_at atoms x)) second)
       where
         go : (c : Bool) → opposite (literal_at atoms (positive v)) ≡ opposite (literal_at atoms l) → literal_at atoms (negative v) ≡ literal_at atoms k → literal_at atoms (positive v) ≡ literal_at atoms l → opposite (literal_at atoms (negative v)) ≡ opposite (literal_at atoms k)
-            → Backed Start (resolvent v a b) (if c then l ∷ k ∷ [] else k ∷ l ∷ []) × IsRightLeaf (if c then l ∷ k ∷ [] else k ∷ l ∷ []) (Close 0 1) []
+            → Backed Start (resolvent v a b) (if c then l ∷ k ∷ [] else k ∷ l ∷ []) × IsRightLeaf (if c then l ∷ k ∷ [] else k ∷ l ∷ []) (AtTwo Close 0 1) []
         go true e f g i = pair_right (resolvent v a b) l k given.1 also.1 (sym f ∙ e)
         go false e f g i = pair_right (resolvent v a b) k l also.1 given.1 (sym g ∙ i)
     joined_right p v a b (start m l) (line t) h j given also =

@@ -11,10 +11,10 @@ use Rattle.stt_core.proofs.SameTerms.{same_term-refl, same_term-true}
 use Rattle.stt_core.proofs.ListLaws.{map-append}
 use Rattle.tableau_calculus.specs.Literals.{Literal, IsLiteral, IsBranch}
 use Rattle.tableau_calculus.specs.Witnesses.{Row, with_rows, IsTableAfter, IsTable}
-use Rattle.tableau_calculus.specs.Rules.{Rule, places, AreAt, false_rule, close_rule, refl_rule, imp_pos_rule, imp_neg_rule, bool_pos_rule, bool_neg_rule, fun_pos_rule, fun_neg_rule, all_pos_rule, all_neg_rule, mat_rule, dec_rule, con_rule, cho_rule, des_rule, cut_rule}
+use Rattle.tableau_calculus.specs.RuleUses.{principals_of}
+use Rattle.tableau_calculus.specs.Rules.{PlainRule, Rule, AreAt, false_rule, close_rule, refl_rule, imp_pos_rule, imp_neg_rule, bool_pos_rule, bool_neg_rule, fun_pos_rule, fun_neg_rule, all_pos_rule, all_neg_rule, mat_rule, dec_rule, con_rule, cho_rule, des_rule, cut_rule}
 use Rattle.tableau_calculus.specs.Accepted.{IsTypedUse, IsRightLine, AreRightLines}
-use Rattle.tableau_calculus.specs.declared.refutation.RuleUse.{RuleUse}
-use Rattle.tableau_calculus.specs.declared.refutation.RuleUse.TheVariants.{False, Close, Refl, ImpPos, ImpNeg, BoolPos, BoolNeg, FunPos, FunNeg, AllPos, AllNeg, Mat, Dec, Con, Cho, Des, Cut}
+use Rattle.tableau_calculus.specs.declared.rule_use.RuleUse.TheVariants.{AtOne, AtTwo, AllPos, WithPredicate, Cut}
 use Rattle.tableau_calculus.specs.declared.refutation.Line.{Line}
 use Rattle.tableau_calculus.proofs.ListLaws.{contains-first}
 use Rattle.rebuild_spec.specs.NeededRows.{rows_for_constant, rows_for, rows_for_all, rows_up_to_principal, rows_for_rule, rows_for_lines}
@@ -138,7 +138,7 @@ module _ (scope : Scope) (rows : List Row) (n : ℕ) where
     row_kept : (k : ℕ) (r : Row) → slice_get rows k ≡ Some r → suc (position_or_len (λ q. same_term r.predicate q.predicate) rows) ≤ n → slice_get (take n rows) k ≡ Some r
     row_kept k r h b = let found = row_found scope [] rows k r table h in get-take n rows k r (omega (arith, found, b)) h
 
-    rule_kept : (branch : List Literal) (rule : RuleUse) (principals : List Literal) (alternatives : List (List Literal)) → Rule (with_rows scope rows) rows rule principals alternatives → AreAt branch (places rule) principals → rows_for_all principals ≤ n → rows_for_rule rows branch rule ≤ n → Rule (with_rows scope (take n rows)) (take n rows) rule principals alternatives
+    rule_kept : (branch : List Literal) (rule : PlainRule) (principals : List Literal) (alternatives : List (List Literal)) → Rule (with_rows scope rows) rows rule principals alternatives → AreAt branch (principals_of rule) principals → rows_for_all principals ≤ n → rows_for_rule rows branch rule ≤ n → Rule (with_rows scope (take n rows)) (take n rows) rule principals alternatives
     rule_kept branch rule principals alternatives (false_rule i) at below few = false_rule i
     rule_kept branch rule principals alternatives (close_rule i j l) at below few = close_rule i j l
     rule_kept branch rule principals alternatives (refl_rule i a s) at below few = refl_rule i a s
@@ -157,23 +157,11 @@ module _ (scope : Scope) (rows : List Row) (n : ℕ) where
     rule_kept branch rule principals alternatives (des_rule a f h) at below few = des_rule a f (term_kept [] (predicate a) f few h)
     rule_kept branch rule principals alternatives (cut_rule l h) at below few = cut_rule l (literal_kept l few h)
 
-    use_kept : (branch : List Literal) (rule : RuleUse) → rows_for_rule rows branch rule ≤ n → IsTypedUse (with_rows scope rows) rule → IsTypedUse (with_rows scope (take n rows)) rule
-    use_kept branch (False i) b h = tt
-    use_kept branch (Close i j) b h = tt
-    use_kept branch (Refl i) b h = tt
-    use_kept branch (ImpPos i) b h = tt
-    use_kept branch (ImpNeg i) b h = tt
-    use_kept branch (BoolPos i) b h = tt
-    use_kept branch (BoolNeg i) b h = tt
-    use_kept branch (FunPos i) b h = tt
-    use_kept branch (FunNeg i) b h = tt
+    use_kept : (branch : List Literal) (rule : PlainRule) → rows_for_rule rows branch rule ≤ n → IsTypedUse (with_rows scope rows) rule → IsTypedUse (with_rows scope (take n rows)) rule
+    use_kept branch (AtOne kind i) b h = tt
+    use_kept branch (AtTwo kind i j) b h = tt
     use_kept branch (AllPos i u) b h = (h.0, term_kept [] h.0 u b h.1)
-    use_kept branch (AllNeg i) b h = tt
-    use_kept branch (Mat i j) b h = tt
-    use_kept branch (Dec i) b h = tt
-    use_kept branch (Con i j) b h = tt
-    use_kept branch (Cho f) b h = (h.0, term_kept [] (predicate h.0) f b h.1)
-    use_kept branch (Des f) b h = (h.0, term_kept [] (predicate h.0) f b h.1)
+    use_kept branch (WithPredicate kind f) b h = (h.0, term_kept [] (predicate h.0) f b h.1)
     use_kept branch (Cut l) b h = literal_kept l b h
 
     line_kept : (earlier : List Line) (l : Line) → rows_for_all l.branch ≤ n → rows_for_rule rows l.branch l.rule ≤ n → IsRightLine (with_rows scope rows) rows earlier l → IsRightLine (with_rows scope (take n rows)) (take n rows) earlier l
@@ -183,7 +171,7 @@ module _ (scope : Scope) (rows : List Row) (n : ℕ) where
       instance = record {
         principals = h.instance.principals;
         at_places = h.instance.at_places;
-        fits = rule_kept l.branch l.rule h.instance.principals h.alternatives h.instance.fits h.instance.at_places (at_below l.branch (places l.rule) h.instance.principals h.instance.at_places b) c;
+        fits = rule_kept l.branch l.rule h.instance.principals h.alternatives h.instance.fits h.instance.at_places (at_below l.branch (principals_of l.rule) h.instance.principals h.instance.at_places b) c;
       };
       children = h.children;
     }

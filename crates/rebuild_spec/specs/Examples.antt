@@ -3,7 +3,10 @@ use Rattle.std.specs.Prelude.{ℕ, List, [], ◌∷◌}
 use Rattle.stt_core.specs.SimpleType.{SimpleType, formula, base, arrow}
 use Rattle.stt_core.specs.Lambda.{name, witness, falsity, implication, equality, choice, description, Lambda, bound, constant, lam, app, neg, imp, eq, every}
 use Rattle.tableau_calculus.specs.Literals.{plus, minus}
-use Rattle.tableau_calculus.specs.declared.refutation.RuleUse.TheVariants.{False, Close, ImpPos, ImpNeg, BoolNeg, FunNeg, AllPos, AllNeg, Mat, Cho, Des, Cut}
+use Rattle.tableau_calculus.specs.declared.rule_use.RuleUse.TheVariants.{AtOne, AtTwo, AllPos, WithPredicate, Cut}
+use Rattle.tableau_calculus.specs.declared.rule_use.OnePlace.TheVariants.{False, ImpPos, ImpNeg, BoolNeg, FunNeg, AllNeg}
+use Rattle.tableau_calculus.specs.declared.rule_use.TwoPlaces.TheVariants.{Close, Mat}
+use Rattle.tableau_calculus.specs.declared.rule_use.OfPredicate.TheVariants.{Cho, Des}
 use Rattle.tableau_calculus.specs.declared.refutation.Child.TheVariants as child
 use Rattle.tableau_calculus.specs.declared.refutation.Child.TheVariants.{Closed}
 use Rattle.tableau_calculus.specs.declared.refutation.Line.{Line}
@@ -39,7 +42,7 @@ abbrev pub true_conjecture_a0 : Lambda
 true_conjecture_a0 = constant falsity
 
 abbrev pub true_conjecture_i0 : Instance
-true_conjecture_i0 = record { rule = (False 0); principals = ((yes 0) ∷ []); alternatives = [] }
+true_conjecture_i0 = record { rule = (AtOne False 0); principals = ((yes 0) ∷ []); alternatives = [] }
 
 abbrev pub true_conjecture_e0 : LogEntry
 true_conjecture_e0 = record { chain = record { first = (Clause 1); steps = (on 0 (Clause 0) ∷ []) }; result = [] }
@@ -48,7 +51,7 @@ abbrev pub true_conjecture_input : Input
 true_conjecture_input = record { atoms = (true_conjecture_a0 ∷ []); rows = []; clauses = (start_unit (yes 0) ∷ clause_by ((no 0) ∷ []) true_conjecture_i0 ∷ []); log = (true_conjecture_e0 ∷ []) }
 
 abbrev pub true_conjecture_lines : List Line
-true_conjecture_lines = record { branch = (plus true_conjecture_a0 ∷ []); rule = (False 0); children = [] } ∷ []
+true_conjecture_lines = record { branch = (plus true_conjecture_a0 ∷ []); rule = (AtOne False 0); children = [] } ∷ []
 
 abbrev pub true_conjecture_refutation : Refutation
 true_conjecture_refutation = record { witnesses = []; lines = true_conjecture_lines }
@@ -64,7 +67,7 @@ abbrev pub clash_input : Input
 clash_input = record { atoms = (clash_a0 ∷ []); rows = []; clauses = (start_unit (yes 0) ∷ start_unit (no 0) ∷ []); log = (clash_e0 ∷ []) }
 
 abbrev pub clash_lines : List Line
-clash_lines = record { branch = (plus clash_a0 ∷ minus clash_a0 ∷ []); rule = (Close 0 1); children = [] } ∷ []
+clash_lines = record { branch = (plus clash_a0 ∷ minus clash_a0 ∷ []); rule = (AtTwo Close 0 1); children = [] } ∷ []
 
 abbrev pub clash_refutation : Refutation
 clash_refutation = record { witnesses = []; lines = clash_lines }
@@ -92,10 +95,10 @@ abbrev pub all_p_i0 : Instance
 all_p_i0 = record { rule = (AllPos 0 (app (constant (choice individual_type)) (lam individual_type (constant falsity)))); principals = ((yes 0) ∷ []); alternatives = (((yes 2) ∷ []) ∷ []) }
 
 abbrev pub all_p_i1 : Instance
-all_p_i1 = record { rule = (Mat 0 1); principals = ((yes 2) ∷ (no 1) ∷ []); alternatives = (((no 3) ∷ []) ∷ []) }
+all_p_i1 = record { rule = (AtTwo Mat 0 1); principals = ((yes 2) ∷ (no 1) ∷ []); alternatives = (((no 3) ∷ []) ∷ []) }
 
 abbrev pub all_p_i2 : Instance
-all_p_i2 = record { rule = (Cho (lam individual_type (constant falsity))); principals = []; alternatives = (((yes 4) ∷ []) ∷ ((yes 5) ∷ []) ∷ []) }
+all_p_i2 = record { rule = (WithPredicate Cho (lam individual_type (constant falsity))); principals = []; alternatives = (((yes 4) ∷ []) ∷ ((yes 5) ∷ []) ∷ []) }
 
 abbrev pub all_p_i3 : Instance
 all_p_i3 = record { rule = (AllPos 0 (example_name 1)); principals = ((yes 0) ∷ []); alternatives = (((yes 1) ∷ []) ∷ []) }
@@ -123,7 +126,7 @@ abbrev pub eta_equal_input : Input
 eta_equal_input = record { atoms = (eta_equal_a0 ∷ []); rows = []; clauses = (start_unit (yes 0) ∷ start_unit (no 0) ∷ []); log = (eta_equal_e0 ∷ []) }
 
 abbrev pub eta_equal_lines : List Line
-eta_equal_lines = record { branch = (plus eta_equal_a0 ∷ minus eta_equal_a0 ∷ []); rule = (Close 0 1); children = [] } ∷ []
+eta_equal_lines = record { branch = (plus eta_equal_a0 ∷ minus eta_equal_a0 ∷ []); rule = (AtTwo Close 0 1); children = [] } ∷ []
 
 abbrev pub eta_equal_refutation : Refutation
 eta_equal_refutation = record { witnesses = []; lines = eta_equal_lines }
@@ -136,7 +139,7 @@ abbrev pub pointwise_a1 : Lambda
 pointwise_a1 = app (app (constant (equality (arrow individual_type individual_type))) (lam individual_type (app (example_name 0) (bound 0)))) (lam individual_type (app (example_name 1) (bound 0)))
 
 abbrev pub pointwise_i0 : Instance
-pointwise_i0 = record { rule = (FunNeg 0); principals = ((no 1) ∷ []); alternatives = (((no 0) ∷ []) ∷ []) }
+pointwise_i0 = record { rule = (AtOne FunNeg 0); principals = ((no 1) ∷ []); alternatives = (((no 0) ∷ []) ∷ []) }
 
 abbrev pub pointwise_e0 : LogEntry
 pointwise_e0 = record { chain = record { first = (Clause 2); steps = (on 1 (Clause 1) ∷ on 0 (Clause 0) ∷ []) }; result = [] }
@@ -145,7 +148,7 @@ abbrev pub pointwise_input : Input
 pointwise_input = record { atoms = (pointwise_a0 ∷ pointwise_a1 ∷ []); rows = []; clauses = (start_unit (yes 0) ∷ start_unit (no 1) ∷ clause_by ((yes 1) ∷ (no 0) ∷ []) pointwise_i0 ∷ []); log = (pointwise_e0 ∷ []) }
 
 abbrev pub pointwise_lines : List Line
-pointwise_lines = record { branch = (minus pointwise_a1 ∷ plus pointwise_a0 ∷ []); rule = (FunNeg 0); children = (Closed ∷ []) } ∷ []
+pointwise_lines = record { branch = (minus pointwise_a1 ∷ plus pointwise_a0 ∷ []); rule = (AtOne FunNeg 0); children = (Closed ∷ []) } ∷ []
 
 abbrev pub pointwise_refutation : Refutation
 pointwise_refutation = record { witnesses = []; lines = pointwise_lines }
@@ -161,10 +164,10 @@ abbrev pub chosen_a2 : Lambda
 chosen_a2 = app (example_name 0) (constant (witness 0))
 
 abbrev pub chosen_i0 : Instance
-chosen_i0 = record { rule = (AllNeg 0); principals = ((no 0) ∷ []); alternatives = (((yes 2) ∷ []) ∷ []) }
+chosen_i0 = record { rule = (AtOne AllNeg 0); principals = ((no 0) ∷ []); alternatives = (((yes 2) ∷ []) ∷ []) }
 
 abbrev pub chosen_i1 : Instance
-chosen_i1 = record { rule = (Cho (lam individual_type (app (example_name 0) (bound 0)))); principals = []; alternatives = (((yes 0) ∷ []) ∷ ((yes 1) ∷ []) ∷ []) }
+chosen_i1 = record { rule = (WithPredicate Cho (lam individual_type (app (example_name 0) (bound 0)))); principals = []; alternatives = (((yes 0) ∷ []) ∷ ((yes 1) ∷ []) ∷ []) }
 
 abbrev pub chosen_e0 : LogEntry
 chosen_e0 = record { chain = record { first = (Clause 3); steps = (on 1 (Clause 1) ∷ on 0 (Clause 0) ∷ []) }; result = [] }
@@ -173,7 +176,7 @@ abbrev pub chosen_input : Input
 chosen_input = record { atoms = (chosen_a0 ∷ chosen_a1 ∷ chosen_a2 ∷ []); rows = (record { type = individual_type; predicate = (lam individual_type (neg (app (example_name 0) (bound 0)))) } ∷ []); clauses = (start_unit (no 0) ∷ start_unit (no 1) ∷ clause_by ((yes 0) ∷ (yes 2) ∷ []) chosen_i0 ∷ clause_by ((yes 0) ∷ (yes 1) ∷ []) chosen_i1 ∷ []); log = (chosen_e0 ∷ []) }
 
 abbrev pub chosen_lines : List Line
-chosen_lines = record { branch = (minus chosen_a0 ∷ minus chosen_a1 ∷ []); rule = (Cho (lam individual_type (app (example_name 0) (bound 0)))); children = (Closed ∷ Closed ∷ []) } ∷ []
+chosen_lines = record { branch = (minus chosen_a0 ∷ minus chosen_a1 ∷ []); rule = (WithPredicate Cho (lam individual_type (app (example_name 0) (bound 0)))); children = (Closed ∷ Closed ∷ []) } ∷ []
 
 abbrev pub chosen_refutation : Refutation
 chosen_refutation = record { witnesses = []; lines = chosen_lines }
@@ -189,7 +192,7 @@ abbrev pub quoted_input : Input
 quoted_input = record { atoms = (quoted_a0 ∷ []); rows = []; clauses = (start_unit (yes 0) ∷ start_unit (no 0) ∷ []); log = (quoted_e0 ∷ []) }
 
 abbrev pub quoted_lines : List Line
-quoted_lines = record { branch = (plus quoted_a0 ∷ minus quoted_a0 ∷ []); rule = (Close 0 1); children = [] } ∷ []
+quoted_lines = record { branch = (plus quoted_a0 ∷ minus quoted_a0 ∷ []); rule = (AtTwo Close 0 1); children = [] } ∷ []
 
 abbrev pub quoted_refutation : Refutation
 quoted_refutation = record { witnesses = []; lines = quoted_lines }
@@ -202,10 +205,10 @@ abbrev pub unnamed_a1 : Lambda
 unnamed_a1 = constant falsity
 
 abbrev pub unnamed_i0 : Instance
-unnamed_i0 = record { rule = (AllNeg 0); principals = ((no 0) ∷ []); alternatives = (((yes 1) ∷ []) ∷ []) }
+unnamed_i0 = record { rule = (AtOne AllNeg 0); principals = ((no 0) ∷ []); alternatives = (((yes 1) ∷ []) ∷ []) }
 
 abbrev pub unnamed_i1 : Instance
-unnamed_i1 = record { rule = (False 0); principals = ((yes 1) ∷ []); alternatives = [] }
+unnamed_i1 = record { rule = (AtOne False 0); principals = ((yes 1) ∷ []); alternatives = [] }
 
 abbrev pub unnamed_e0 : LogEntry
 unnamed_e0 = record { chain = record { first = (Clause 1); steps = (on 1 (Clause 2) ∷ on 0 (Clause 0) ∷ []) }; result = [] }
@@ -214,7 +217,7 @@ abbrev pub unnamed_input : Input
 unnamed_input = record { atoms = (unnamed_a0 ∷ unnamed_a1 ∷ []); rows = (record { type = individual_type; predicate = (lam individual_type (neg (constant falsity))) } ∷ []); clauses = (start_unit (no 0) ∷ clause_by ((yes 0) ∷ (yes 1) ∷ []) unnamed_i0 ∷ clause_by ((no 1) ∷ []) unnamed_i1 ∷ []); log = (unnamed_e0 ∷ []) }
 
 abbrev pub unnamed_lines : List Line
-unnamed_lines = record { branch = (plus unnamed_a1 ∷ []); rule = (False 0); children = [] } ∷ record { branch = (minus unnamed_a0 ∷ minus unnamed_a1 ∷ []); rule = (AllNeg 0); children = (Closed ∷ []) } ∷ record { branch = (minus unnamed_a0 ∷ []); rule = (Cut (plus unnamed_a1)); children = (child.Line 0 ∷ child.Line 1 ∷ []) } ∷ []
+unnamed_lines = record { branch = (plus unnamed_a1 ∷ []); rule = (AtOne False 0); children = [] } ∷ record { branch = (minus unnamed_a0 ∷ minus unnamed_a1 ∷ []); rule = (AtOne AllNeg 0); children = (Closed ∷ []) } ∷ record { branch = (minus unnamed_a0 ∷ []); rule = (Cut (plus unnamed_a1)); children = (child.Line 0 ∷ child.Line 1 ∷ []) } ∷ []
 
 abbrev pub unnamed_refutation : Refutation
 unnamed_refutation = record { witnesses = (record { type = individual_type; predicate = (lam individual_type (neg (constant falsity))) } ∷ []); lines = unnamed_lines }
@@ -233,7 +236,7 @@ abbrev pub the_p_a2 : Lambda
 the_p_a2 = app (example_name 0) (app (constant (description individual_type)) the_p_predicate)
 
 abbrev pub the_p_i0 : Instance
-the_p_i0 = record { rule = Des the_p_predicate; principals = []; alternatives = (yes 0 ∷ []) ∷ (no 1 ∷ []) ∷ (yes 2 ∷ []) ∷ [] }
+the_p_i0 = record { rule = WithPredicate Des the_p_predicate; principals = []; alternatives = (yes 0 ∷ []) ∷ (no 1 ∷ []) ∷ (yes 2 ∷ []) ∷ [] }
 
 abbrev pub the_p_e0 : LogEntry
 the_p_e0 = record { chain = record { first = Clause 3; steps = on 2 (Clause 2) ∷ on 1 (Clause 1) ∷ on 0 (Clause 0) ∷ [] }; result = [] }
@@ -242,7 +245,7 @@ abbrev pub the_p_input : Input
 the_p_input = record { atoms = the_p_a0 ∷ the_p_a1 ∷ the_p_a2 ∷ []; rows = []; clauses = start_unit (no 0) ∷ start_unit (yes 1) ∷ start_unit (no 2) ∷ clause_by (yes 0 ∷ no 1 ∷ yes 2 ∷ []) the_p_i0 ∷ []; log = the_p_e0 ∷ [] }
 
 abbrev pub the_p_lines : List Line
-the_p_lines = record { branch = minus the_p_a0 ∷ plus the_p_a1 ∷ minus the_p_a2 ∷ []; rule = Des the_p_predicate; children = Closed ∷ Closed ∷ Closed ∷ [] } ∷ []
+the_p_lines = record { branch = minus the_p_a0 ∷ plus the_p_a1 ∷ minus the_p_a2 ∷ []; rule = WithPredicate Des the_p_predicate; children = Closed ∷ Closed ∷ Closed ∷ [] } ∷ []
 
 abbrev pub the_p_refutation : Refutation
 the_p_refutation = record { witnesses = []; lines = the_p_lines }
@@ -267,16 +270,16 @@ abbrev pub k_p_a5 : Lambda
 k_p_a5 = example_name 1
 
 abbrev pub k_p_i0 : Instance
-k_p_i0 = record { rule = (ImpPos 0); principals = ((yes 0) ∷ []); alternatives = (((yes 4) ∷ []) ∷ ((yes 5) ∷ []) ∷ []) }
+k_p_i0 = record { rule = (AtOne ImpPos 0); principals = ((yes 0) ∷ []); alternatives = (((yes 4) ∷ []) ∷ ((yes 5) ∷ []) ∷ []) }
 
 abbrev pub k_p_i1 : Instance
-k_p_i1 = record { rule = (ImpPos 0); principals = ((yes 1) ∷ []); alternatives = (((yes 4) ∷ []) ∷ ((no 5) ∷ []) ∷ []) }
+k_p_i1 = record { rule = (AtOne ImpPos 0); principals = ((yes 1) ∷ []); alternatives = (((yes 4) ∷ []) ∷ ((no 5) ∷ []) ∷ []) }
 
 abbrev pub k_p_i2 : Instance
-k_p_i2 = record { rule = (ImpPos 0); principals = ((yes 2) ∷ []); alternatives = (((no 4) ∷ []) ∷ ((yes 5) ∷ []) ∷ []) }
+k_p_i2 = record { rule = (AtOne ImpPos 0); principals = ((yes 2) ∷ []); alternatives = (((no 4) ∷ []) ∷ ((yes 5) ∷ []) ∷ []) }
 
 abbrev pub k_p_i3 : Instance
-k_p_i3 = record { rule = (ImpPos 0); principals = ((yes 3) ∷ []); alternatives = (((no 4) ∷ []) ∷ ((no 5) ∷ []) ∷ []) }
+k_p_i3 = record { rule = (AtOne ImpPos 0); principals = ((yes 3) ∷ []); alternatives = (((no 4) ∷ []) ∷ ((no 5) ∷ []) ∷ []) }
 
 abbrev pub k_p_e0 : LogEntry
 k_p_e0 = record { chain = record { first = (Clause 5); steps = (on 5 (Clause 4) ∷ on 1 (Clause 1) ∷ on 0 (Clause 0) ∷ []) }; result = ((yes 4) ∷ []) }
@@ -288,7 +291,7 @@ abbrev pub k_p_input : Input
 k_p_input = record { atoms = (k_p_a0 ∷ k_p_a1 ∷ k_p_a2 ∷ k_p_a3 ∷ k_p_a4 ∷ k_p_a5 ∷ []); rows = []; clauses = (start_unit (yes 0) ∷ start_unit (yes 1) ∷ start_unit (yes 2) ∷ start_unit (yes 3) ∷ clause_by ((no 0) ∷ (yes 4) ∷ (yes 5) ∷ []) k_p_i0 ∷ clause_by ((no 1) ∷ (yes 4) ∷ (no 5) ∷ []) k_p_i1 ∷ clause_by ((no 2) ∷ (no 4) ∷ (yes 5) ∷ []) k_p_i2 ∷ clause_by ((no 3) ∷ (no 4) ∷ (no 5) ∷ []) k_p_i3 ∷ []); log = (k_p_e0 ∷ k_p_e1 ∷ []) }
 
 abbrev pub k_p_lines : List Line
-k_p_lines = record { branch = (plus k_p_a3 ∷ plus k_p_a4 ∷ plus k_p_a5 ∷ []); rule = (ImpPos 0); children = (Closed ∷ Closed ∷ []) } ∷ record { branch = (plus k_p_a2 ∷ plus k_p_a4 ∷ minus k_p_a5 ∷ []); rule = (ImpPos 0); children = (Closed ∷ Closed ∷ []) } ∷ record { branch = (plus k_p_a3 ∷ plus k_p_a4 ∷ plus k_p_a2 ∷ []); rule = (Cut (plus k_p_a5)); children = (child.Line 0 ∷ child.Line 1 ∷ []) } ∷ record { branch = (plus k_p_a1 ∷ minus k_p_a4 ∷ plus k_p_a5 ∷ []); rule = (ImpPos 0); children = (Closed ∷ Closed ∷ []) } ∷ record { branch = (plus k_p_a0 ∷ minus k_p_a4 ∷ minus k_p_a5 ∷ []); rule = (ImpPos 0); children = (Closed ∷ Closed ∷ []) } ∷ record { branch = (plus k_p_a1 ∷ minus k_p_a4 ∷ plus k_p_a0 ∷ []); rule = (Cut (plus k_p_a5)); children = (child.Line 3 ∷ child.Line 4 ∷ []) } ∷ record { branch = (plus k_p_a3 ∷ plus k_p_a2 ∷ plus k_p_a1 ∷ plus k_p_a0 ∷ []); rule = (Cut (plus k_p_a4)); children = (child.Line 2 ∷ child.Line 5 ∷ []) } ∷ []
+k_p_lines = record { branch = (plus k_p_a3 ∷ plus k_p_a4 ∷ plus k_p_a5 ∷ []); rule = (AtOne ImpPos 0); children = (Closed ∷ Closed ∷ []) } ∷ record { branch = (plus k_p_a2 ∷ plus k_p_a4 ∷ minus k_p_a5 ∷ []); rule = (AtOne ImpPos 0); children = (Closed ∷ Closed ∷ []) } ∷ record { branch = (plus k_p_a3 ∷ plus k_p_a4 ∷ plus k_p_a2 ∷ []); rule = (Cut (plus k_p_a5)); children = (child.Line 0 ∷ child.Line 1 ∷ []) } ∷ record { branch = (plus k_p_a1 ∷ minus k_p_a4 ∷ plus k_p_a5 ∷ []); rule = (AtOne ImpPos 0); children = (Closed ∷ Closed ∷ []) } ∷ record { branch = (plus k_p_a0 ∷ minus k_p_a4 ∷ minus k_p_a5 ∷ []); rule = (AtOne ImpPos 0); children = (Closed ∷ Closed ∷ []) } ∷ record { branch = (plus k_p_a1 ∷ minus k_p_a4 ∷ plus k_p_a0 ∷ []); rule = (Cut (plus k_p_a5)); children = (child.Line 3 ∷ child.Line 4 ∷ []) } ∷ record { branch = (plus k_p_a3 ∷ plus k_p_a2 ∷ plus k_p_a1 ∷ plus k_p_a0 ∷ []); rule = (Cut (plus k_p_a4)); children = (child.Line 2 ∷ child.Line 5 ∷ []) } ∷ []
 
 abbrev pub k_p_refutation : Refutation
 k_p_refutation = record { witnesses = []; lines = k_p_lines }
@@ -316,25 +319,25 @@ abbrev pub demorgan_a6 : Lambda
 demorgan_a6 = constant (witness 1)
 
 abbrev pub demorgan_i0 : Instance
-demorgan_i0 = record { rule = (AllNeg 0); principals = ((no 0) ∷ []); alternatives = (((no 1) ∷ []) ∷ []) }
+demorgan_i0 = record { rule = (AtOne AllNeg 0); principals = ((no 0) ∷ []); alternatives = (((no 1) ∷ []) ∷ []) }
 
 abbrev pub demorgan_i1 : Instance
-demorgan_i1 = record { rule = (AllNeg 0); principals = ((no 1) ∷ []); alternatives = (((no 2) ∷ []) ∷ []) }
+demorgan_i1 = record { rule = (AtOne AllNeg 0); principals = ((no 1) ∷ []); alternatives = (((no 2) ∷ []) ∷ []) }
 
 abbrev pub demorgan_i2 : Instance
-demorgan_i2 = record { rule = (BoolNeg 0); principals = ((no 2) ∷ []); alternatives = (((yes 3) ∷ (no 4) ∷ []) ∷ ((no 3) ∷ (yes 4) ∷ []) ∷ []) }
+demorgan_i2 = record { rule = (AtOne BoolNeg 0); principals = ((no 2) ∷ []); alternatives = (((yes 3) ∷ (no 4) ∷ []) ∷ ((no 3) ∷ (yes 4) ∷ []) ∷ []) }
 
 abbrev pub demorgan_i3 : Instance
-demorgan_i3 = record { rule = (ImpPos 0); principals = ((yes 3) ∷ []); alternatives = (((no 5) ∷ []) ∷ ((no 6) ∷ []) ∷ []) }
+demorgan_i3 = record { rule = (AtOne ImpPos 0); principals = ((yes 3) ∷ []); alternatives = (((no 5) ∷ []) ∷ ((no 6) ∷ []) ∷ []) }
 
 abbrev pub demorgan_i4 : Instance
-demorgan_i4 = record { rule = (ImpNeg 0); principals = ((no 4) ∷ []); alternatives = (((yes 5) ∷ (yes 6) ∷ []) ∷ []) }
+demorgan_i4 = record { rule = (AtOne ImpNeg 0); principals = ((no 4) ∷ []); alternatives = (((yes 5) ∷ (yes 6) ∷ []) ∷ []) }
 
 abbrev pub demorgan_i5 : Instance
-demorgan_i5 = record { rule = (ImpNeg 0); principals = ((no 3) ∷ []); alternatives = (((yes 5) ∷ (yes 6) ∷ []) ∷ []) }
+demorgan_i5 = record { rule = (AtOne ImpNeg 0); principals = ((no 3) ∷ []); alternatives = (((yes 5) ∷ (yes 6) ∷ []) ∷ []) }
 
 abbrev pub demorgan_i6 : Instance
-demorgan_i6 = record { rule = (ImpPos 0); principals = ((yes 4) ∷ []); alternatives = (((no 5) ∷ []) ∷ ((no 6) ∷ []) ∷ []) }
+demorgan_i6 = record { rule = (AtOne ImpPos 0); principals = ((yes 4) ∷ []); alternatives = (((no 5) ∷ []) ∷ ((no 6) ∷ []) ∷ []) }
 
 abbrev pub demorgan_e0 : LogEntry
 demorgan_e0 = record { chain = record { first = (Clause 4); steps = (on 3 (Clause 8) ∷ on 4 (Clause 6) ∷ on 2 (Clause 2) ∷ on 1 (Clause 1) ∷ on 0 (Clause 0) ∷ []) }; result = ((yes 5) ∷ []) }
@@ -349,7 +352,7 @@ abbrev pub demorgan_input : Input
 demorgan_input = record { atoms = (demorgan_a0 ∷ demorgan_a1 ∷ demorgan_a2 ∷ demorgan_a3 ∷ demorgan_a4 ∷ demorgan_a5 ∷ demorgan_a6 ∷ []); rows = (record { type = formula; predicate = (lam formula (every formula (lam formula (app (app (constant (equality formula)) (neg (neg (app (app (constant implication) (bound 1)) (neg (bound 0)))))) (app (app (constant implication) (neg (neg (bound 1)))) (neg (bound 0))))))) } ∷ record { type = formula; predicate = (lam formula (app (app (constant (equality formula)) (neg (neg (app (app (constant implication) (constant (witness 0))) (neg (bound 0)))))) (app (app (constant implication) (neg (neg (constant (witness 0))))) (neg (bound 0))))) } ∷ []); clauses = (start_unit (no 0) ∷ clause_by ((yes 0) ∷ (no 1) ∷ []) demorgan_i0 ∷ clause_by ((yes 1) ∷ (no 2) ∷ []) demorgan_i1 ∷ clause_by ((yes 2) ∷ (yes 3) ∷ (yes 4) ∷ []) demorgan_i2 ∷ clause_by ((yes 2) ∷ (no 4) ∷ (no 3) ∷ []) demorgan_i2 ∷ clause_by ((no 3) ∷ (no 5) ∷ (no 6) ∷ []) demorgan_i3 ∷ clause_by ((yes 4) ∷ (yes 5) ∷ []) demorgan_i4 ∷ clause_by ((yes 4) ∷ (yes 6) ∷ []) demorgan_i4 ∷ clause_by ((yes 3) ∷ (yes 5) ∷ []) demorgan_i5 ∷ clause_by ((yes 3) ∷ (yes 6) ∷ []) demorgan_i5 ∷ clause_by ((no 4) ∷ (no 5) ∷ (no 6) ∷ []) demorgan_i6 ∷ []); log = (demorgan_e0 ∷ demorgan_e1 ∷ demorgan_e2 ∷ []) }
 
 abbrev pub demorgan_lines : List Line
-demorgan_lines = record { branch = (minus demorgan_a0 ∷ plus demorgan_a1 ∷ []); rule = (AllNeg 0); children = (Closed ∷ []) } ∷ record { branch = (minus demorgan_a1 ∷ plus demorgan_a2 ∷ []); rule = (AllNeg 0); children = (Closed ∷ []) } ∷ record { branch = (minus demorgan_a2 ∷ plus demorgan_a4 ∷ plus demorgan_a3 ∷ []); rule = (BoolNeg 0); children = (Closed ∷ Closed ∷ []) } ∷ record { branch = (plus demorgan_a3 ∷ plus demorgan_a5 ∷ plus demorgan_a6 ∷ []); rule = (ImpPos 0); children = (Closed ∷ Closed ∷ []) } ∷ record { branch = (minus demorgan_a4 ∷ minus demorgan_a6 ∷ []); rule = (ImpNeg 0); children = (Closed ∷ []) } ∷ record { branch = (plus demorgan_a3 ∷ plus demorgan_a5 ∷ minus demorgan_a4 ∷ []); rule = (Cut (plus demorgan_a6)); children = (child.Line 3 ∷ child.Line 4 ∷ []) } ∷ record { branch = (minus demorgan_a2 ∷ plus demorgan_a3 ∷ plus demorgan_a5 ∷ []); rule = (Cut (plus demorgan_a4)); children = (child.Line 2 ∷ child.Line 5 ∷ []) } ∷ record { branch = (plus demorgan_a4 ∷ plus demorgan_a5 ∷ plus demorgan_a6 ∷ []); rule = (ImpPos 0); children = (Closed ∷ Closed ∷ []) } ∷ record { branch = (minus demorgan_a3 ∷ minus demorgan_a6 ∷ []); rule = (ImpNeg 0); children = (Closed ∷ []) } ∷ record { branch = (plus demorgan_a4 ∷ plus demorgan_a5 ∷ minus demorgan_a3 ∷ []); rule = (Cut (plus demorgan_a6)); children = (child.Line 7 ∷ child.Line 8 ∷ []) } ∷ record { branch = (minus demorgan_a2 ∷ minus demorgan_a3 ∷ minus demorgan_a4 ∷ []); rule = (BoolNeg 0); children = (Closed ∷ Closed ∷ []) } ∷ record { branch = (plus demorgan_a5 ∷ minus demorgan_a3 ∷ minus demorgan_a2 ∷ []); rule = (Cut (plus demorgan_a4)); children = (child.Line 9 ∷ child.Line 10 ∷ []) } ∷ record { branch = (minus demorgan_a3 ∷ minus demorgan_a5 ∷ []); rule = (ImpNeg 0); children = (Closed ∷ []) } ∷ record { branch = (minus demorgan_a2 ∷ plus demorgan_a4 ∷ minus demorgan_a5 ∷ []); rule = (Cut (plus demorgan_a3)); children = (child.Line 2 ∷ child.Line 12 ∷ []) } ∷ record { branch = (minus demorgan_a4 ∷ minus demorgan_a5 ∷ []); rule = (ImpNeg 0); children = (Closed ∷ []) } ∷ record { branch = (minus demorgan_a2 ∷ minus demorgan_a5 ∷ []); rule = (Cut (plus demorgan_a4)); children = (child.Line 13 ∷ child.Line 14 ∷ []) } ∷ record { branch = (minus demorgan_a1 ∷ minus demorgan_a5 ∷ []); rule = (Cut (plus demorgan_a2)); children = (child.Line 1 ∷ child.Line 15 ∷ []) } ∷ record { branch = (minus demorgan_a0 ∷ minus demorgan_a5 ∷ []); rule = (Cut (plus demorgan_a1)); children = (child.Line 0 ∷ child.Line 16 ∷ []) } ∷ record { branch = (minus demorgan_a3 ∷ minus demorgan_a2 ∷ minus demorgan_a0 ∷ []); rule = (Cut (plus demorgan_a5)); children = (child.Line 11 ∷ child.Line 17 ∷ []) } ∷ record { branch = (minus demorgan_a1 ∷ minus demorgan_a3 ∷ minus demorgan_a0 ∷ []); rule = (Cut (plus demorgan_a2)); children = (child.Line 1 ∷ child.Line 18 ∷ []) } ∷ record { branch = (minus demorgan_a0 ∷ minus demorgan_a3 ∷ []); rule = (Cut (plus demorgan_a1)); children = (child.Line 0 ∷ child.Line 19 ∷ []) } ∷ record { branch = (minus demorgan_a2 ∷ plus demorgan_a5 ∷ minus demorgan_a0 ∷ []); rule = (Cut (plus demorgan_a3)); children = (child.Line 6 ∷ child.Line 20 ∷ []) } ∷ record { branch = (minus demorgan_a2 ∷ minus demorgan_a0 ∷ []); rule = (Cut (plus demorgan_a5)); children = (child.Line 21 ∷ child.Line 17 ∷ []) } ∷ record { branch = (minus demorgan_a1 ∷ minus demorgan_a0 ∷ []); rule = (Cut (plus demorgan_a2)); children = (child.Line 1 ∷ child.Line 22 ∷ []) } ∷ record { branch = (minus demorgan_a0 ∷ []); rule = (Cut (plus demorgan_a1)); children = (child.Line 0 ∷ child.Line 23 ∷ []) } ∷ []
+demorgan_lines = record { branch = (minus demorgan_a0 ∷ plus demorgan_a1 ∷ []); rule = (AtOne AllNeg 0); children = (Closed ∷ []) } ∷ record { branch = (minus demorgan_a1 ∷ plus demorgan_a2 ∷ []); rule = (AtOne AllNeg 0); children = (Closed ∷ []) } ∷ record { branch = (minus demorgan_a2 ∷ plus demorgan_a4 ∷ plus demorgan_a3 ∷ []); rule = (AtOne BoolNeg 0); children = (Closed ∷ Closed ∷ []) } ∷ record { branch = (plus demorgan_a3 ∷ plus demorgan_a5 ∷ plus demorgan_a6 ∷ []); rule = (AtOne ImpPos 0); children = (Closed ∷ Closed ∷ []) } ∷ record { branch = (minus demorgan_a4 ∷ minus demorgan_a6 ∷ []); rule = (AtOne ImpNeg 0); children = (Closed ∷ []) } ∷ record { branch = (plus demorgan_a3 ∷ plus demorgan_a5 ∷ minus demorgan_a4 ∷ []); rule = (Cut (plus demorgan_a6)); children = (child.Line 3 ∷ child.Line 4 ∷ []) } ∷ record { branch = (minus demorgan_a2 ∷ plus demorgan_a3 ∷ plus demorgan_a5 ∷ []); rule = (Cut (plus demorgan_a4)); children = (child.Line 2 ∷ child.Line 5 ∷ []) } ∷ record { branch = (plus demorgan_a4 ∷ plus demorgan_a5 ∷ plus demorgan_a6 ∷ []); rule = (AtOne ImpPos 0); children = (Closed ∷ Closed ∷ []) } ∷ record { branch = (minus demorgan_a3 ∷ minus demorgan_a6 ∷ []); rule = (AtOne ImpNeg 0); children = (Closed ∷ []) } ∷ record { branch = (plus demorgan_a4 ∷ plus demorgan_a5 ∷ minus demorgan_a3 ∷ []); rule = (Cut (plus demorgan_a6)); children = (child.Line 7 ∷ child.Line 8 ∷ []) } ∷ record { branch = (minus demorgan_a2 ∷ minus demorgan_a3 ∷ minus demorgan_a4 ∷ []); rule = (AtOne BoolNeg 0); children = (Closed ∷ Closed ∷ []) } ∷ record { branch = (plus demorgan_a5 ∷ minus demorgan_a3 ∷ minus demorgan_a2 ∷ []); rule = (Cut (plus demorgan_a4)); children = (child.Line 9 ∷ child.Line 10 ∷ []) } ∷ record { branch = (minus demorgan_a3 ∷ minus demorgan_a5 ∷ []); rule = (AtOne ImpNeg 0); children = (Closed ∷ []) } ∷ record { branch = (minus demorgan_a2 ∷ plus demorgan_a4 ∷ minus demorgan_a5 ∷ []); rule = (Cut (plus demorgan_a3)); children = (child.Line 2 ∷ child.Line 12 ∷ []) } ∷ record { branch = (minus demorgan_a4 ∷ minus demorgan_a5 ∷ []); rule = (AtOne ImpNeg 0); children = (Closed ∷ []) } ∷ record { branch = (minus demorgan_a2 ∷ minus demorgan_a5 ∷ []); rule = (Cut (plus demorgan_a4)); children = (child.Line 13 ∷ child.Line 14 ∷ []) } ∷ record { branch = (minus demorgan_a1 ∷ minus demorgan_a5 ∷ []); rule = (Cut (plus demorgan_a2)); children = (child.Line 1 ∷ child.Line 15 ∷ []) } ∷ record { branch = (minus demorgan_a0 ∷ minus demorgan_a5 ∷ []); rule = (Cut (plus demorgan_a1)); children = (child.Line 0 ∷ child.Line 16 ∷ []) } ∷ record { branch = (minus demorgan_a3 ∷ minus demorgan_a2 ∷ minus demorgan_a0 ∷ []); rule = (Cut (plus demorgan_a5)); children = (child.Line 11 ∷ child.Line 17 ∷ []) } ∷ record { branch = (minus demorgan_a1 ∷ minus demorgan_a3 ∷ minus demorgan_a0 ∷ []); rule = (Cut (plus demorgan_a2)); children = (child.Line 1 ∷ child.Line 18 ∷ []) } ∷ record { branch = (minus demorgan_a0 ∷ minus demorgan_a3 ∷ []); rule = (Cut (plus demorgan_a1)); children = (child.Line 0 ∷ child.Line 19 ∷ []) } ∷ record { branch = (minus demorgan_a2 ∷ plus demorgan_a5 ∷ minus demorgan_a0 ∷ []); rule = (Cut (plus demorgan_a3)); children = (child.Line 6 ∷ child.Line 20 ∷ []) } ∷ record { branch = (minus demorgan_a2 ∷ minus demorgan_a0 ∷ []); rule = (Cut (plus demorgan_a5)); children = (child.Line 21 ∷ child.Line 17 ∷ []) } ∷ record { branch = (minus demorgan_a1 ∷ minus demorgan_a0 ∷ []); rule = (Cut (plus demorgan_a2)); children = (child.Line 1 ∷ child.Line 22 ∷ []) } ∷ record { branch = (minus demorgan_a0 ∷ []); rule = (Cut (plus demorgan_a1)); children = (child.Line 0 ∷ child.Line 23 ∷ []) } ∷ []
 
 abbrev pub demorgan_refutation : Refutation
 demorgan_refutation = record { witnesses = (record { type = formula; predicate = (lam formula (every formula (lam formula (app (app (constant (equality formula)) (neg (neg (app (app (constant implication) (bound 1)) (neg (bound 0)))))) (app (app (constant implication) (neg (neg (bound 1)))) (neg (bound 0))))))) } ∷ record { type = formula; predicate = (lam formula (app (app (constant (equality formula)) (neg (neg (app (app (constant implication) (constant (witness 0))) (neg (bound 0)))))) (app (app (constant implication) (neg (neg (constant (witness 0))))) (neg (bound 0))))) } ∷ []); lines = demorgan_lines }

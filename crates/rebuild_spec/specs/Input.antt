@@ -1,16 +1,16 @@
 -- What a refutation is rebuilt from.
 use Rattle.std.specs.Prelude.{List, [], ◌∷◌, map}
 use Rattle.stt_core.specs.Lambda.{Lambda}
+use Rattle.tableau_calculus.specs.Rules.{PlainRule}
 use Rattle.tableau_calculus.specs.Literals.{Literal}
 use Rattle.tableau_calculus.specs.Witnesses.{Row}
-use Rattle.tableau_calculus.specs.declared.refutation.RuleUse.{RuleUse}
 use Rattle.sat_base.specs.declared.literal.SatLit.{SatLit}
 use Rattle.sat_log.specs.declared.log.LogEntry.{LogEntry}
 use Rattle.search_spec.specs.Numbered.{literal_at}
 
 -- An instance of a rule: the rule, whose places don't count, its principals and its alternatives.
 pub record Instance : Type 0 where
-  pub rule : RuleUse
+  pub rule : PlainRule
   pub principals : List SatLit
   pub alternatives : List (List SatLit)
 

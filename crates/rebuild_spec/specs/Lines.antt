@@ -2,7 +2,7 @@
 use Rattle.std.specs.Prelude.{ℕ, List, [], ◌∷◌, ◌++◌, map, if◌then◌else◌}
 use Rattle.std.specs.List.{list_any, position_or_len}
 use Rattle.stt_core.specs.Lambda.{Lambda}
-use Rattle.tableau_calculus.specs.declared.refutation.RuleUse.TheVariants.{Cut}
+use Rattle.tableau_calculus.specs.declared.rule_use.RuleUse.TheVariants.{Cut}
 use Rattle.tableau_calculus.specs.declared.refutation.Child.TheVariants as child
 use Rattle.tableau_calculus.specs.declared.refutation.Line.{Line}
 use Rattle.sat_base.specs.Literal.{positive}

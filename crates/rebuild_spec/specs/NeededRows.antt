@@ -3,10 +3,11 @@ use Rattle.std.specs.Prelude.{ℕ, suc, max, List, [], ◌∷◌, Option, Some, 
 use Rattle.std.specs.List.{position_or_len}
 use Rattle.stt_core.specs.Lambda.{Constant, witness, all, Lambda, bound, constant, lam, app}
 use Rattle.stt_core.specs.SameTerm.{same_term}
+use Rattle.tableau_calculus.specs.Rules.{PlainRule}
 use Rattle.tableau_calculus.specs.Literals.{Literal}
 use Rattle.tableau_calculus.specs.Witnesses.{Row}
-use Rattle.tableau_calculus.specs.declared.refutation.RuleUse.{RuleUse}
-use Rattle.tableau_calculus.specs.declared.refutation.RuleUse.TheVariants.{AllPos, AllNeg, Cho, Des, Cut}
+use Rattle.tableau_calculus.specs.declared.rule_use.RuleUse.TheVariants.{AtOne, AllPos, WithPredicate, Cut}
+use Rattle.tableau_calculus.specs.declared.rule_use.OnePlace.TheVariants.{AllNeg}
 use Rattle.tableau_calculus.specs.declared.refutation.Line.{Line}
 
 -- how many rows of a witness table have to be there for a term
@@ -33,11 +34,10 @@ abbrev pub rows_up_to_principal : List Row → Option Literal → ℕ
 rows_up_to_principal rows None = 0
 rows_up_to_principal rows (Some l) = rows_up_to rows l.atom
 
-abbrev pub rows_for_rule : List Row → List Literal → RuleUse → ℕ
+abbrev pub rows_for_rule : List Row → List Literal → PlainRule → ℕ
 rows_for_rule rows branch (AllPos i u) = rows_for u
-rows_for_rule rows branch (AllNeg i) = rows_up_to_principal rows (slice_get branch i)
-rows_for_rule rows branch (Cho f) = rows_for f
-rows_for_rule rows branch (Des f) = rows_for f
+rows_for_rule rows branch (AtOne AllNeg i) = rows_up_to_principal rows (slice_get branch i)
+rows_for_rule rows branch (WithPredicate kind f) = rows_for f
 rows_for_rule rows branch (Cut l) = rows_for l.atom
 rows_for_rule rows branch rule = 0
 

@@ -1,8 +1,9 @@
 -- What stands for the clauses, for what the chains give after each step, and for the results: a start unit or a line.
 use Rattle.std.specs.Prelude.{◌≡◌, ℕ, zero, suc, nat_lt, ◌&&◌, if◌then◌else◌, List, [], ◌∷◌, length, map, Some, slice_get}
 use Rattle.std.specs.List.{position_or_len}
-use Rattle.tableau_calculus.specs.declared.refutation.RuleUse.{RuleUse}
-use Rattle.tableau_calculus.specs.declared.refutation.RuleUse.TheVariants.{False, Close, Refl, ImpPos, ImpNeg, BoolPos, BoolNeg, FunPos, FunNeg, AllPos, AllNeg, Mat, Dec, Con}
+use Rattle.tableau_calculus.specs.Rules.{PlainRule}
+use Rattle.tableau_calculus.specs.declared.rule_use.RuleUse.TheVariants.{AtOne, AtTwo, AllPos}
+use Rattle.tableau_calculus.specs.declared.rule_use.TwoPlaces.TheVariants.{Close}
 use Rattle.tableau_calculus.specs.declared.refutation.Child.TheVariants.{Closed}
 use Rattle.sat_base.specs.declared.literal.Var.{Var}
 use Rattle.sat_base.specs.declared.literal.SatLit.{SatLit}
@@ -21,21 +22,10 @@ pub data Standing : Type 0 where
   line : Tree → Standing
 
 -- a rule at these places of its principals
-abbrev pub rule_at_places : RuleUse → List ℕ → RuleUse
-rule_at_places (False k) (i ∷ is) = False i
-rule_at_places (Close k m) (i ∷ j ∷ is) = Close i j
-rule_at_places (Refl k) (i ∷ is) = Refl i
-rule_at_places (ImpPos k) (i ∷ is) = ImpPos i
-rule_at_places (ImpNeg k) (i ∷ is) = ImpNeg i
-rule_at_places (BoolPos k) (i ∷ is) = BoolPos i
-rule_at_places (BoolNeg k) (i ∷ is) = BoolNeg i
-rule_at_places (FunPos k) (i ∷ is) = FunPos i
-rule_at_places (FunNeg k) (i ∷ is) = FunNeg i
+abbrev pub rule_at_places : PlainRule → List ℕ → PlainRule
+rule_at_places (AtOne kind k) (i ∷ is) = AtOne kind i
+rule_at_places (AtTwo kind k m) (i ∷ j ∷ is) = AtTwo kind i j
 rule_at_places (AllPos k u) (i ∷ is) = AllPos i u
-rule_at_places (AllNeg k) (i ∷ is) = AllNeg i
-rule_at_places (Mat k m) (i ∷ j ∷ is) = Mat i j
-rule_at_places (Dec k) (i ∷ is) = Dec i
-rule_at_places (Con k m) (i ∷ j ∷ is) = Con i j
 rule_at_places rule is = rule
 
 -- the place of a literal in a branch
@@ -56,7 +46,7 @@ literals_in_order m l n k = if nat_lt m n then l ∷ k ∷ [] else k ∷ l ∷ [
 -- What a step gives at its place, on a variable, of what stands for the clause with the variable and for the one with its negation: two
 -- start units close each other, one start unit leaves the other line as it is, and two lines give a cut.
 abbrev pub joined_standing : Place → Var → Standing → Standing → Standing
-joined_standing p v (start m l) (start n k) = line (leaf p (literals_in_order m l n k) (Close 0 1) [])
+joined_standing p v (start m l) (start n k) = line (leaf p (literals_in_order m l n k) (AtTwo Close 0 1) [])
 joined_standing p v (start m l) (line t) = line t
 joined_standing p v (line t) (start n k) = line t
 joined_standing p v (line t) (line u) = line (cut p v u t)

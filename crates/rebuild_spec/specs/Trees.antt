@@ -1,6 +1,6 @@
 -- Lines with those that they rest on.
 use Rattle.std.specs.Prelude.{ℕ, nat_eq, ◌&&◌, Bool, false, List}
-use Rattle.tableau_calculus.specs.declared.refutation.RuleUse.{RuleUse}
+use Rattle.tableau_calculus.specs.Rules.{PlainRule}
 use Rattle.tableau_calculus.specs.declared.refutation.Child.{Child}
 use Rattle.sat_base.specs.declared.literal.Var.{Var}
 use Rattle.sat_base.specs.declared.literal.SatLit.{SatLit}
@@ -21,7 +21,7 @@ same_place p q = false
 -- A line that was made at a place: one that rests on no other, with its branch, its rule and its closed children, or a cut on a variable,
 -- with the line for where the variable holds and the one for where it doesn't.
 pub data Tree : Type 0 where
-  leaf : Place → List SatLit → RuleUse → List Child → Tree
+  leaf : Place → List SatLit → PlainRule → List Child → Tree
   cut : Place → Var → Tree → Tree → Tree
 
 abbrev pub made_at : Tree → Place

@@ -1,9 +1,10 @@
 -- What the lines of a rebuilt refutation are about, and how many they are.
 use Rattle.std.specs.Prelude.{◌≡◌, ◌<◌, ◌⊎◌, ℕ, suc, true, List, [], ◌∷◌, length, map, Some, slice_get, Contains}
 use Rattle.stt_core.specs.Lambda.{Lambda}
+use Rattle.tableau_calculus.specs.Rules.{PlainRule}
 use Rattle.tableau_calculus.specs.Literals.{Literal}
-use Rattle.tableau_calculus.specs.declared.refutation.RuleUse.{RuleUse}
-use Rattle.tableau_calculus.specs.declared.refutation.RuleUse.TheVariants.{Close, Cut}
+use Rattle.tableau_calculus.specs.declared.rule_use.RuleUse.TheVariants.{AtTwo, Cut}
+use Rattle.tableau_calculus.specs.declared.rule_use.TwoPlaces.TheVariants.{Close}
 use Rattle.tableau_calculus.specs.declared.refutation.Child.TheVariants as child
 use Rattle.tableau_calculus.specs.declared.refutation.Line.{Line}
 use Rattle.sat_base.specs.declared.literal.Var.{Var}
@@ -37,7 +38,7 @@ pub record IsAtomOfInput (input : Input) (atom : Lambda) : Type 0 where
 pub record IsClosedByStart (start : List Literal) (l : Line) : Type 0 where
   pub first : Literal
   pub second : Literal
-  pub rule : l.rule ≡ Close 0 1
+  pub rule : l.rule ≡ AtTwo Close 0 1
   pub branch : l.branch ≡ first ∷ second ∷ []
   pub first_in : Contains start first
   pub second_in : Contains start second
@@ -52,7 +53,7 @@ pub record IsFromClause (input : Input) (l : Line) : Type 0 where
 
 -- Where a line of this rule comes from. A cut's atom is one of the clauses'. Any other line closes two literals of the start, or is that of
 -- a clause.
-abbrev pub IsFromSearchBy : RuleUse → List Literal → Input → Line → Type 0
+abbrev pub IsFromSearchBy : PlainRule → List Literal → Input → Line → Type 0
 IsFromSearchBy (Cut literal) start input l = IsAtomOfInput input literal.atom
 IsFromSearchBy rule start input l = IsClosedByStart start l ⊎ IsFromClause input l
 

@@ -1,5 +1,4 @@
 pub use Rattle.delta_defs.specs.Unfolding
-pub use Rattle.refute_print.specs.LineView
 pub use Rattle.refute_print.specs.Named
 pub use Rattle.refute_print.specs.TextView
 pub use Rattle.refute_print.specs.TreeView

@@ -6,11 +6,12 @@ use Rattle.stt_core.specs.SimpleType.{SimpleType, base, arrow}
 use Rattle.stt_core.specs.Lambda.{Constant, name, witness, falsity, negation, implication, all, equality, choice, description, Lambda, bound, constant, lam, app}
 use Rattle.tableau_calculus.specs.Literals.{Literal}
 use Rattle.tableau_calculus.specs.Witnesses.{Row}
-use Rattle.tableau_calculus.specs.declared.refutation.RuleUse.{RuleUse}
-use Rattle.tableau_calculus.specs.declared.refutation.RuleUse.TheVariants as rule
+use Rattle.tableau_calculus.specs.RuleUses.{map_use}
+use Rattle.tableau_calculus.specs.Rules.{PlainRule}
+use Rattle.tableau_calculus.specs.declared.rule_use.RuleUse.{RuleUse}
 use Rattle.tableau_calculus.specs.declared.refutation.Line.{Line}
 use Rattle.tableau_calculus.specs.declared.refutation.Refutation.{Refutation}
-use Rattle.refute_print.specs.Trees.{TextTypeTree, ConstantTree, TermTree, LiteralTree, OnePlace, False, Refl, ImpPos, ImpNeg, BoolPos, BoolNeg, FunPos, FunNeg, AllNeg, Dec, TwoPlaces, Close, Mat, Con, OfPredicate, Cho, Des, RuleTree, at_one, at_two, with_instance, with_predicate, with_cut, LineTree, RefutationTree}
+use Rattle.refute_print.specs.Trees.{TextTypeTree, ConstantTree, TermTree, LiteralTree, LineTree, RefutationTree}
 use Rattle.refute_print.specs.Trees as tree
 use Rattle.refute_print.specs.Named.{Names}
 use Rattle.witness_names.specs.Rows.{binder_of}
@@ -47,33 +48,8 @@ numbered_term names (tree.app s u) = app (numbered_term names s) (numbered_term 
 abbrev pub numbered_literal : Names → LiteralTree → Literal
 numbered_literal names l = record { positive = l.positive; atom = numbered_term names l.atom }
 
-abbrev pub numbered_one_place : OnePlace → ℕ → RuleUse
-numbered_one_place False i = rule.False i
-numbered_one_place Refl i = rule.Refl i
-numbered_one_place ImpPos i = rule.ImpPos i
-numbered_one_place ImpNeg i = rule.ImpNeg i
-numbered_one_place BoolPos i = rule.BoolPos i
-numbered_one_place BoolNeg i = rule.BoolNeg i
-numbered_one_place FunPos i = rule.FunPos i
-numbered_one_place FunNeg i = rule.FunNeg i
-numbered_one_place AllNeg i = rule.AllNeg i
-numbered_one_place Dec i = rule.Dec i
-
-abbrev pub numbered_two_places : TwoPlaces → ℕ → ℕ → RuleUse
-numbered_two_places Close i j = rule.Close i j
-numbered_two_places Mat i j = rule.Mat i j
-numbered_two_places Con i j = rule.Con i j
-
-abbrev pub numbered_of_predicate : OfPredicate → Lambda → RuleUse
-numbered_of_predicate Cho f = rule.Cho f
-numbered_of_predicate Des f = rule.Des f
-
-abbrev pub numbered_rule : Names → RuleTree → RuleUse
-numbered_rule names (at_one r i) = numbered_one_place r i
-numbered_rule names (at_two r i j) = numbered_two_places r i j
-numbered_rule names (with_instance i u) = rule.AllPos i (numbered_term names u)
-numbered_rule names (with_predicate r f) = numbered_of_predicate r (numbered_term names f)
-numbered_rule names (with_cut l) = rule.Cut (numbered_literal names l)
+abbrev pub numbered_rule : Names → RuleUse ℕ TermTree LiteralTree → PlainRule
+numbered_rule names rule = map_use (λ i. i) (numbered_term names) (numbered_literal names) rule
 
 abbrev pub numbered_line : Names → LineTree → Line
 numbered_line names line = record {

@@ -2,7 +2,7 @@
 
 ghost use Rattle.std.specs.Prelude.{◌≡◌, ◌<◌, ◌^◌, List, length, None, OnOk, IfOk, IfSome};
 ghost use Rattle.tableau_calculus.specs.Literals.{Literal};
-ghost use Rattle.tableau_calculus.specs.declared.refutation.RuleUse.{RuleUse};
+ghost use Rattle.tableau_calculus.specs.Rules.{PlainRule};
 ghost use Rattle.refute_check.specs.Internal.Shared.{IsGoodShared, ExtendsShared};
 ghost use Rattle.refute_check.specs.Internal.Taking.{IsTaken, FindsUse};
 
@@ -20,8 +20,8 @@ impl Shared {
         by: &BankUse,
     ) -> Result<Option<Instance>, AllocError>
         requires good { IsGoodShared self.old }
-        requires taken { (ls : List Literal) × (rule : RuleUse) × IsTaken self.old ls rule by.now }
-        ensures finds { IfOk result (λ o. (ls : List Literal) (rule : RuleUse) → IsTaken self.old ls rule by.now → FindsUse self.old self.new ls rule o) }
+        requires taken { (ls : List Literal) × (rule : PlainRule) × IsTaken self.old ls rule by.now }
+        ensures finds { IfOk result (λ o. (ls : List Literal) (rule : PlainRule) → IsTaken self.old ls rule by.now → FindsUse self.old self.new ls rule o) }
         ensures extends { IfOk result (λ o. IfSome o (λ _. ExtendsShared self.old self.new)) }
         ensures good { IfOk result (λ o. IfSome o (λ _. IsGoodShared self.new)) }
     {

@@ -2,36 +2,23 @@
 
 ghost use Rattle.std.specs.Prelude.{◌≡◌};
 ghost use Rattle.tableau_calculus.specs.CutFree.{is_cut_use};
-ghost use Rattle.refute_print.specs.LineView.{the_rule};
 ghost use Rattle.refute_print.specs.Named.{Names};
 ghost use Rattle.refute_check.specs.Numbered.{numbered_rule};
 ghost use Rattle.refute_check.specs.Internal.Strictly.{cut_or, with_cut};
 
 use refute_print::TextRule;
-use tableau_calculus::Why;
+use tableau_calculus::{RuleUse, Why};
 
 /// Whether the rule is the cut.
 pub(crate) fn is_cut(rule: &TextRule) -> bool
-    ensures { (names : Names) → result ≡ is_cut_use (numbered_rule names (the_rule rule.now)) }
+    ensures { (names : Names) → result ≡ is_cut_use (numbered_rule names rule.now) }
 {
     match rule {
-        TextRule::Cut(_) => true,
-        TextRule::False(_) => false,
-        TextRule::Close(_, _) => false,
-        TextRule::Refl(_) => false,
-        TextRule::ImpPos(_) => false,
-        TextRule::ImpNeg(_) => false,
-        TextRule::BoolPos(_) => false,
-        TextRule::BoolNeg(_) => false,
-        TextRule::FunPos(_) => false,
-        TextRule::FunNeg(_) => false,
-        TextRule::AllPos(_, _) => false,
-        TextRule::AllNeg(_) => false,
-        TextRule::Mat(_, _) => false,
-        TextRule::Dec(_) => false,
-        TextRule::Con(_, _) => false,
-        TextRule::Cho(_) => false,
-        TextRule::Des(_) => false,
+        RuleUse::Cut(_) => true,
+        RuleUse::AtOne(_, _) => false,
+        RuleUse::AtTwo(_, _, _) => false,
+        RuleUse::AllPos(_, _) => false,
+        RuleUse::WithPredicate(_, _) => false,
     }
 }
 

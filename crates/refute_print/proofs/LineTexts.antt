@@ -16,6 +16,10 @@ use Rattle.refute_print.proofs.Lists.{all_texts}
 pub numbered_before : (a d b rest : List ℕ) → (a ++ (d ++ b)) ++ rest ≡ a ++ (d ++ (b ++ rest))
 numbered_before a d b rest = append_assoc a (d ++ b) rest ∙ ap (λ x. a ++ x) (append_assoc d b rest)
 
+-- a rule's name with its parenthesis, and what follows
+pub behind_mark : (mark name rest : List ℕ) → mark ≡ name ++ codes "(" → mark ++ rest ≡ name ++ (codes "(" ++ rest)
+behind_mark mark name rest is = ap (λ x. x ++ rest) is ∙ append_assoc name (codes "(") rest
+
 -- the literal of a cut
 pub cut_text : (names : Names) (positive : Bool) (atom : Lambda) → (codes "Cut(" ++ sign_text positive) ++ (term_text (named_term names atom) ++ codes ")") ≡ codes "Cut(" ++ ((sign_text positive ++ term_text (named_term names atom)) ++ codes ")")
 cut_text names positive atom = ap (λ x. codes "Cut(" ++ x) (sym (append_assoc (sign_text positive) (term_text (named_term names atom)) (codes ")")))

@@ -7,6 +7,8 @@ pub use Rattle.stt_core.specs.SimpleType
 pub use Rattle.stt_core.specs.TypedName
 pub use Rattle.stt_core.specs.View as SttCoreView
 pub use Rattle.tableau_calculus.specs.Literals
+pub use Rattle.tableau_calculus.specs.RuleUses
+pub use Rattle.tableau_calculus.specs.Rules
 pub use Rattle.tableau_calculus.specs.Witnesses
 pub use Rattle.thf_grammar.specs.Printable
 pub use Rattle.thf_names.specs.Names
@@ -18,6 +20,5 @@ pub mod Limits
 pub mod Sizes
 pub mod View
 pub mod TreeView
-pub mod LineView
 pub mod TextView
 pub mod Internal

@@ -3,8 +3,10 @@ use Rattle.std.specs.Prelude.{◌≡◌, ℕ, suc, ◌^◌, ◌<◌, ◌≤◌, 
 use Rattle.std.specs.List.{AllByRecursion}
 use Rattle.tableau_calculus.specs.declared.refutation.Child.{Child}
 use Rattle.tableau_calculus.specs.declared.refutation.Child.TheVariants.{Closed, Line as Numbered}
+use Rattle.tableau_calculus.specs.declared.rule_use.RuleUse.{RuleUse}
+use Rattle.tableau_calculus.specs.declared.rule_use.RuleUse.TheVariants.{AtOne, AtTwo, AllPos, WithPredicate, Cut}
 use Rattle.refute_print.specs.Letters.{is_printable_name}
-use Rattle.refute_print.specs.Trees.{TextTypeTree, formula, individual, named, arrow, ConstantTree, name, witness, falsity, negation, implication, all, equality, choice, description, TermTree, bound, constant, lam, app, LiteralTree, RuleTree, at_one, at_two, with_instance, with_predicate, with_cut, LineTree}
+use Rattle.refute_print.specs.Trees.{TextTypeTree, formula, individual, named, arrow, ConstantTree, name, witness, falsity, negation, implication, all, equality, choice, description, TermTree, bound, constant, lam, app, LiteralTree, LineTree}
 
 -- the greatest number of parentheses that are open at once
 abbrev pub type_tree_depth : TextTypeTree → ℕ
@@ -92,12 +94,12 @@ pub record IsLiteralText (l : LiteralTree) : Type 0 where
   pub atom : IsWithinLimits l.atom
   pub unsigned : is_negated_text l.atom ≡ false
 
-abbrev pub IsRule : RuleTree → Type 0
-IsRule (at_one r i) = i < 2 ^ 64
-IsRule (at_two r i j) = (i < 2 ^ 64) × (j < 2 ^ 64)
-IsRule (with_instance i u) = (i < 2 ^ 64) × IsWithinLimits u
-IsRule (with_predicate r f) = IsWithinLimits f
-IsRule (with_cut l) = IsLiteralText l
+abbrev pub IsRule : RuleUse ℕ TermTree LiteralTree → Type 0
+IsRule (AtOne r i) = i < 2 ^ 64
+IsRule (AtTwo r i j) = (i < 2 ^ 64) × (j < 2 ^ 64)
+IsRule (AllPos i u) = (i < 2 ^ 64) × IsWithinLimits u
+IsRule (WithPredicate r f) = IsWithinLimits f
+IsRule (Cut l) = IsLiteralText l
 
 abbrev pub IsChild : Child → Type 0
 IsChild Closed = Unit {0}

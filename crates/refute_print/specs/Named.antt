@@ -6,11 +6,12 @@ use Rattle.stt_core.specs.Lambda.{Constant, name, witness, falsity, negation, im
 use Rattle.stt_core.specs.TypedName.{TypedName}
 use Rattle.tableau_calculus.specs.Literals.{Literal}
 use Rattle.tableau_calculus.specs.Witnesses.{Row}
-use Rattle.tableau_calculus.specs.declared.refutation.RuleUse.{RuleUse}
-use Rattle.tableau_calculus.specs.declared.refutation.RuleUse.TheVariants as rule
+use Rattle.tableau_calculus.specs.RuleUses.{map_use, EachPart}
+use Rattle.tableau_calculus.specs.Rules.{PlainRule}
+use Rattle.tableau_calculus.specs.declared.rule_use.RuleUse.{RuleUse}
 use Rattle.tableau_calculus.specs.declared.refutation.Line.{Line}
 use Rattle.tableau_calculus.specs.declared.refutation.Refutation.{Refutation}
-use Rattle.refute_print.specs.Trees.{TextTypeTree, ConstantTree, TermTree, LiteralTree, RuleTree, LineTree, RefutationTree}
+use Rattle.refute_print.specs.Trees.{TextTypeTree, ConstantTree, TermTree, LiteralTree, LineTree, RefutationTree}
 use Rattle.refute_print.specs.Trees as tree
 
 -- the names that a signature declares: those of its own base types, of which the first is number 2, and those of its constants
@@ -50,24 +51,8 @@ named_term names (app s u) = tree.app (named_term names s) (named_term names u)
 abbrev pub named_literal : Names → Literal → LiteralTree
 named_literal names l = record { positive = l.positive; atom = named_term names l.atom }
 
-abbrev pub named_rule : Names → RuleUse → RuleTree
-named_rule names (rule.False i) = tree.at_one tree.False i
-named_rule names (rule.Close i j) = tree.at_two tree.Close i j
-named_rule names (rule.Refl i) = tree.at_one tree.Refl i
-named_rule names (rule.ImpPos i) = tree.at_one tree.ImpPos i
-named_rule names (rule.ImpNeg i) = tree.at_one tree.ImpNeg i
-named_rule names (rule.BoolPos i) = tree.at_one tree.BoolPos i
-named_rule names (rule.BoolNeg i) = tree.at_one tree.BoolNeg i
-named_rule names (rule.FunPos i) = tree.at_one tree.FunPos i
-named_rule names (rule.FunNeg i) = tree.at_one tree.FunNeg i
-named_rule names (rule.AllPos i u) = tree.with_instance i (named_term names u)
-named_rule names (rule.AllNeg i) = tree.at_one tree.AllNeg i
-named_rule names (rule.Mat i j) = tree.at_two tree.Mat i j
-named_rule names (rule.Dec i) = tree.at_one tree.Dec i
-named_rule names (rule.Con i j) = tree.at_two tree.Con i j
-named_rule names (rule.Cho f) = tree.with_predicate tree.Cho (named_term names f)
-named_rule names (rule.Des f) = tree.with_predicate tree.Des (named_term names f)
-named_rule names (rule.Cut l) = tree.with_cut (named_literal names l)
+abbrev pub named_rule : Names → PlainRule → RuleUse ℕ TermTree LiteralTree
+named_rule names rule = map_use (λ i. i) (named_term names) (named_literal names) rule
 
 abbrev pub named_line : Names → Line → LineTree
 named_line names line = record {
@@ -110,24 +95,8 @@ abbrev pub HaveNames : Names → List Literal → Type 0
 HaveNames names [] = Unit {0}
 HaveNames names (l ∷ literals) = HasNames names l.atom × HaveNames names literals
 
-abbrev pub HasRuleNames : Names → RuleUse → Type 0
-HasRuleNames names (rule.False i) = Unit {0}
-HasRuleNames names (rule.Close i j) = Unit {0}
-HasRuleNames names (rule.Refl i) = Unit {0}
-HasRuleNames names (rule.ImpPos i) = Unit {0}
-HasRuleNames names (rule.ImpNeg i) = Unit {0}
-HasRuleNames names (rule.BoolPos i) = Unit {0}
-HasRuleNames names (rule.BoolNeg i) = Unit {0}
-HasRuleNames names (rule.FunPos i) = Unit {0}
-HasRuleNames names (rule.FunNeg i) = Unit {0}
-HasRuleNames names (rule.AllPos i u) = HasNames names u
-HasRuleNames names (rule.AllNeg i) = Unit {0}
-HasRuleNames names (rule.Mat i j) = Unit {0}
-HasRuleNames names (rule.Dec i) = Unit {0}
-HasRuleNames names (rule.Con i j) = Unit {0}
-HasRuleNames names (rule.Cho f) = HasNames names f
-HasRuleNames names (rule.Des f) = HasNames names f
-HasRuleNames names (rule.Cut l) = HasNames names l.atom
+abbrev pub HasRuleNames : Names → PlainRule → Type 0
+HasRuleNames names rule = EachPart (HasNames names) (λ l. HasNames names l.atom) rule
 
 pub record HasLineNames (names : Names) (line : Line) : Type 0 where
   pub branch_named : HaveNames names line.branch

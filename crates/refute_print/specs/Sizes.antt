@@ -6,8 +6,8 @@ use Rattle.stt_core.specs.Lambda.{Constant, name, witness, falsity, negation, im
 use Rattle.stt_core.specs.Depth.{depth}
 use Rattle.tableau_calculus.specs.Literals.{Literal}
 use Rattle.tableau_calculus.specs.Witnesses.{Row}
-use Rattle.tableau_calculus.specs.declared.refutation.RuleUse.{RuleUse}
-use Rattle.tableau_calculus.specs.declared.refutation.RuleUse.TheVariants as rule
+use Rattle.tableau_calculus.specs.Rules.{PlainRule}
+use Rattle.tableau_calculus.specs.declared.rule_use.RuleUse.TheVariants.{AtOne, AtTwo, AllPos, WithPredicate, Cut}
 use Rattle.tableau_calculus.specs.declared.refutation.Line.{Line}
 use Rattle.tableau_calculus.specs.declared.refutation.Refutation.{Refutation}
 use Rattle.refute_print.specs.Limits.{IsChild}
@@ -50,24 +50,12 @@ abbrev pub AreSmallLiterals : List Literal → Type 0
 AreSmallLiterals literals = AllByRecursion (λ (l : Literal). IsSmallTerm l.atom) literals
 
 -- the places that a rule is used at, and the term that it takes
-abbrev pub IsSmallRule : RuleUse → Type 0
-IsSmallRule (rule.False i) = i < 2 ^ 64
-IsSmallRule (rule.Close i j) = (i < 2 ^ 64) × (j < 2 ^ 64)
-IsSmallRule (rule.Refl i) = i < 2 ^ 64
-IsSmallRule (rule.ImpPos i) = i < 2 ^ 64
-IsSmallRule (rule.ImpNeg i) = i < 2 ^ 64
-IsSmallRule (rule.BoolPos i) = i < 2 ^ 64
-IsSmallRule (rule.BoolNeg i) = i < 2 ^ 64
-IsSmallRule (rule.FunPos i) = i < 2 ^ 64
-IsSmallRule (rule.FunNeg i) = i < 2 ^ 64
-IsSmallRule (rule.AllPos i u) = (i < 2 ^ 64) × IsSmallTerm u
-IsSmallRule (rule.AllNeg i) = i < 2 ^ 64
-IsSmallRule (rule.Mat i j) = (i < 2 ^ 64) × (j < 2 ^ 64)
-IsSmallRule (rule.Dec i) = i < 2 ^ 64
-IsSmallRule (rule.Con i j) = (i < 2 ^ 64) × (j < 2 ^ 64)
-IsSmallRule (rule.Cho f) = IsSmallTerm f
-IsSmallRule (rule.Des f) = IsSmallTerm f
-IsSmallRule (rule.Cut l) = IsSmallTerm l.atom
+abbrev pub IsSmallRule : PlainRule → Type 0
+IsSmallRule (AtOne r i) = i < 2 ^ 64
+IsSmallRule (AtTwo r i j) = (i < 2 ^ 64) × (j < 2 ^ 64)
+IsSmallRule (AllPos i u) = (i < 2 ^ 64) × IsSmallTerm u
+IsSmallRule (WithPredicate r f) = IsSmallTerm f
+IsSmallRule (Cut l) = IsSmallTerm l.atom
 
 pub record IsSmallLine (line : Line) : Type 0 where
   pub branch : AreSmallLiterals line.branch

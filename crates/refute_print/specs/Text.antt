@@ -2,8 +2,16 @@
 use Rattle.std.specs.Prelude.{ℕ, suc, Bool, true, false, List, [], ◌∷◌, ◌++◌, map, codes, decimal}
 use Rattle.tableau_calculus.specs.declared.refutation.Child.{Child}
 use Rattle.tableau_calculus.specs.declared.refutation.Child.TheVariants.{Closed, Line as Numbered}
+use Rattle.tableau_calculus.specs.declared.rule_use.OnePlace.{OnePlace}
+use Rattle.tableau_calculus.specs.declared.rule_use.OnePlace.TheVariants.{False, Refl, ImpPos, ImpNeg, BoolPos, BoolNeg, FunPos, FunNeg, AllNeg, Dec}
+use Rattle.tableau_calculus.specs.declared.rule_use.TwoPlaces.{TwoPlaces}
+use Rattle.tableau_calculus.specs.declared.rule_use.TwoPlaces.TheVariants.{Close, Mat, Con}
+use Rattle.tableau_calculus.specs.declared.rule_use.OfPredicate.{OfPredicate}
+use Rattle.tableau_calculus.specs.declared.rule_use.OfPredicate.TheVariants.{Cho, Des}
+use Rattle.tableau_calculus.specs.declared.rule_use.RuleUse.{RuleUse}
+use Rattle.tableau_calculus.specs.declared.rule_use.RuleUse.TheVariants.{AtOne, AtTwo, AllPos, WithPredicate, Cut}
 use Rattle.thf_names.specs.Names.{name_text}
-use Rattle.refute_print.specs.Trees.{TextTypeTree, formula, individual, named, arrow, ConstantTree, name, witness, falsity, negation, implication, all, equality, choice, description, TermTree, bound, constant, lam, app, LiteralTree, OnePlace, False, Refl, ImpPos, ImpNeg, BoolPos, BoolNeg, FunPos, FunNeg, AllNeg, Dec, TwoPlaces, Close, Mat, Con, OfPredicate, Cho, Des, RuleTree, at_one, at_two, with_instance, with_predicate, with_cut, LineTree, RefutationTree}
+use Rattle.refute_print.specs.Trees.{TextTypeTree, formula, individual, named, arrow, ConstantTree, name, witness, falsity, negation, implication, all, equality, choice, description, TermTree, bound, constant, lam, app, LiteralTree, LineTree, RefutationTree}
 
 abbrev pub text_of_type : TextTypeTree → List ℕ
 text_of_type formula = codes "$o"
@@ -78,12 +86,12 @@ abbrev pub predicate_name : OfPredicate → List ℕ
 predicate_name Cho = codes "Cho"
 predicate_name Des = codes "Des"
 
-abbrev pub rule_text : RuleTree → List ℕ
-rule_text (at_one r i) = one_place_name r ++ (codes "(" ++ (decimal i ++ codes ")"))
-rule_text (at_two r i j) = two_places_name r ++ (codes "(" ++ (decimal i ++ (codes "," ++ (decimal j ++ codes ")"))))
-rule_text (with_instance i u) = codes "All+(" ++ (decimal i ++ (codes ";" ++ (term_text u ++ codes ")")))
-rule_text (with_predicate r f) = predicate_name r ++ (codes "(" ++ (term_text f ++ codes ")"))
-rule_text (with_cut l) = codes "Cut(" ++ (literal_text l ++ codes ")")
+abbrev pub rule_text : RuleUse ℕ TermTree LiteralTree → List ℕ
+rule_text (AtOne r i) = one_place_name r ++ (codes "(" ++ (decimal i ++ codes ")"))
+rule_text (AtTwo r i j) = two_places_name r ++ (codes "(" ++ (decimal i ++ (codes "," ++ (decimal j ++ codes ")"))))
+rule_text (AllPos i u) = codes "All+(" ++ (decimal i ++ (codes ";" ++ (term_text u ++ codes ")")))
+rule_text (WithPredicate r f) = predicate_name r ++ (codes "(" ++ (term_text f ++ codes ")"))
+rule_text (Cut l) = codes "Cut(" ++ (literal_text l ++ codes ")")
 
 -- the line of a witness row, by its number
 abbrev pub row_text : ℕ → TermTree → List ℕ

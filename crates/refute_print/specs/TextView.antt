@@ -1,12 +1,11 @@
 -- A text of the code as a plain tree.
 use Rattle.std.specs.Prelude.{◌≡◌, ℕ, ◌+◌, List, [], ◌∷◌, map, length}
 use Rattle.refute_print.specs.Trees.{LineTree, RefutationTree}
-use Rattle.refute_print.specs.LineView.{the_rule}
 use Rattle.refute_print.specs.declared.line.TextLine.{TextLine}
 use Rattle.refute_print.specs.declared.line.RefutationText.{RefutationText}
 
 abbrev pub the_line : TextLine → LineTree
-the_line l = record { branch = l.branch; rule = the_rule l.rule; children = l.children }
+the_line l = record { branch = l.branch; rule = l.rule; children = l.children }
 
 abbrev pub version_number : List (List ℕ) → ℕ
 version_number [] = 1

@@ -1,6 +1,7 @@
 -- Refutations as they are written: trees whose names are bytes.
 use Rattle.std.specs.Prelude.{ℕ, Bool, List, [], ◌∷◌}
 use Rattle.tableau_calculus.specs.declared.refutation.Child.{Child}
+use Rattle.tableau_calculus.specs.declared.rule_use.RuleUse.{RuleUse}
 
 -- `$o`, `$i`, a base type by its name, or the functions from the first type to the second
 pub data TextTypeTree : Type 0 where
@@ -40,39 +41,10 @@ pub record LiteralTree : Type 0 where
   pub positive : Bool
   pub atom : TermTree
 
--- the rules whose instances are given by one place of the branch, by two, and by a predicate
-pub data OnePlace : Type 0 where
-  False : OnePlace
-  Refl : OnePlace
-  ImpPos : OnePlace
-  ImpNeg : OnePlace
-  BoolPos : OnePlace
-  BoolNeg : OnePlace
-  FunPos : OnePlace
-  FunNeg : OnePlace
-  AllNeg : OnePlace
-  Dec : OnePlace
-
-pub data TwoPlaces : Type 0 where
-  Close : TwoPlaces
-  Mat : TwoPlaces
-  Con : TwoPlaces
-
-pub data OfPredicate : Type 0 where
-  Cho : OfPredicate
-  Des : OfPredicate
-
--- a rule with what its instance takes: places of the branch, which count from 0, a term or a literal
-pub data RuleTree : Type 0 where
-  at_one : OnePlace → ℕ → RuleTree
-  at_two : TwoPlaces → ℕ → ℕ → RuleTree
-  with_instance : ℕ → TermTree → RuleTree
-  with_predicate : OfPredicate → TermTree → RuleTree
-  with_cut : LiteralTree → RuleTree
-
+-- a branch, the rule that closes it with what its instance takes, where a place counts from 0, and the children
 pub record LineTree : Type 0 where
   pub branch : List LiteralTree
-  pub rule : RuleTree
+  pub rule : RuleUse ℕ TermTree LiteralTree
   pub children : List Child
 
 -- the names whose definitions are unfolded, the predicates of the witness rows, and the lines

@@ -2,6 +2,7 @@
 #![tactic(auto)]
 
 mod line;
+mod rule_mark;
 mod tree;
 mod write_bytes;
 mod write_line;
@@ -10,5 +11,6 @@ mod write_term;
 mod write_whole;
 
 pub use line::{RefutationText, TextLine, TextLines, TextLit, TextLits, TextNames, TextRule};
+pub use rule_mark::{one_place_mark, predicate_mark, two_places_mark};
 pub use tree::{TextHead, TextNode, TextTerm, TextTerms, TextTy};
 pub use write_whole::write_text;

@@ -8,7 +8,7 @@ use outside::Bytes;
 use std::alloc::{AllocError, Global};
 use std::marker::Model;
 use std::rc::Rc;
-use tableau_calculus::Children;
+use tableau_calculus::{Children, RuleUse};
 
 /// A formula with a sign. Contracts see it as the plain tree that it is.
 #[derive(Drop)]
@@ -109,51 +109,8 @@ impl TextLits {
     }
 }
 
-/// A rule with what its instance takes. A number is the place of a principal in the branch, from 0.
-pub enum TextRule {
-    False(usize),
-    Close(usize, usize),
-    Refl(usize),
-    ImpPos(usize),
-    ImpNeg(usize),
-    BoolPos(usize),
-    BoolNeg(usize),
-    FunPos(usize),
-    FunNeg(usize),
-    AllPos(usize, TextTerm),
-    AllNeg(usize),
-    Mat(usize, usize),
-    Dec(usize),
-    Con(usize, usize),
-    Cho(TextTerm),
-    Des(TextTerm),
-    Cut(TextLit),
-}
-
-// Written out, so that a proof takes a drop as one call.
-impl Drop for TextRule {
-    fn drop(self) {
-        match self {
-            TextRule::False(_)
-            | TextRule::Close(_, _)
-            | TextRule::Refl(_)
-            | TextRule::ImpPos(_)
-            | TextRule::ImpNeg(_)
-            | TextRule::BoolPos(_)
-            | TextRule::BoolNeg(_)
-            | TextRule::FunPos(_)
-            | TextRule::FunNeg(_)
-            | TextRule::AllPos(_, _)
-            | TextRule::AllNeg(_)
-            | TextRule::Mat(_, _)
-            | TextRule::Dec(_)
-            | TextRule::Con(_, _)
-            | TextRule::Cho(_)
-            | TextRule::Des(_)
-            | TextRule::Cut(_) => {}
-        }
-    }
-}
+/// A rule with what its instance takes. A place counts from 0.
+pub type TextRule = RuleUse<usize, TextTerm, TextLit>;
 
 /// A line: a branch, and the rule that closes it with the children.
 #[derive(Drop)]

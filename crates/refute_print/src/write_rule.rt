@@ -5,11 +5,12 @@ ghost use Rattle.refute_print.specs.Text.{term_text, sign_text, literal_text, ru
 ghost use Rattle.refute_print.specs.Named.{names_of, named_term, named_literal, named_rule, HasNames, HasRuleNames};
 ghost use Rattle.outside.specs.Writing.{Took, Stopped};
 
+use crate::rule_mark::{one_place_mark, predicate_mark, two_places_mark};
 use crate::write_bytes::write_numbered;
 use crate::write_term::write_term_between;
 use outside::{Failed, Sink};
 use stt_core::{Nf, Signature};
-use tableau_calculus::{Lit, RuleUse};
+use tableau_calculus::{Lit, PlainRule, RuleUse};
 
 /// Writes a rule with two places.
 fn write_two_places<S: Sink>(
@@ -65,7 +66,7 @@ fn write_cut<S: Sink>(sink: &mut S, sig: &Signature, lit: &Lit) -> Result<(), Fa
 pub(crate) fn write_rule<S: Sink>(
     sink: &mut S,
     sig: &Signature,
-    rule: &RuleUse,
+    rule: &PlainRule,
 ) -> Result<(), Failed>
     requires { HasRuleNames (names_of sig.now.bases sig.now.consts) rule.now }
     ensures took { OnOk result (Took S.tells S.written S.faults sink.old sink.new
@@ -74,22 +75,12 @@ pub(crate) fn write_rule<S: Sink>(
         (rule_text (named_rule (names_of sig.now.bases sig.now.consts) rule.now))) }
 {
     match rule {
-        RuleUse::False(i) => write_numbered(sink, b"False(", *i, b")"),
-        RuleUse::Close(i, j) => write_two_places(sink, b"Close(", *i, *j),
-        RuleUse::Refl(i) => write_numbered(sink, b"Refl(", *i, b")"),
-        RuleUse::ImpPos(i) => write_numbered(sink, b"Imp+(", *i, b")"),
-        RuleUse::ImpNeg(i) => write_numbered(sink, b"Imp-(", *i, b")"),
-        RuleUse::BoolPos(i) => write_numbered(sink, b"Bool+(", *i, b")"),
-        RuleUse::BoolNeg(i) => write_numbered(sink, b"Bool-(", *i, b")"),
-        RuleUse::FunPos(i) => write_numbered(sink, b"Fun+(", *i, b")"),
-        RuleUse::FunNeg(i) => write_numbered(sink, b"Fun-(", *i, b")"),
+        RuleUse::AtOne(kind, i) => write_numbered(sink, one_place_mark(*kind), *i, b")"),
+        RuleUse::AtTwo(kind, i, j) => write_two_places(sink, two_places_mark(*kind), *i, *j),
         RuleUse::AllPos(i, term) => write_instance(sink, sig, *i, term),
-        RuleUse::AllNeg(i) => write_numbered(sink, b"All-(", *i, b")"),
-        RuleUse::Mat(i, j) => write_two_places(sink, b"Mat(", *i, *j),
-        RuleUse::Dec(i) => write_numbered(sink, b"Dec(", *i, b")"),
-        RuleUse::Con(i, j) => write_two_places(sink, b"Con(", *i, *j),
-        RuleUse::Cho(predicate) => write_term_between(sink, sig, b"Cho(", predicate, b")"),
-        RuleUse::Des(predicate) => write_term_between(sink, sig, b"Des(", predicate, b")"),
+        RuleUse::WithPredicate(kind, f) => {
+            write_term_between(sink, sig, predicate_mark(*kind), f, b")")
+        }
         RuleUse::Cut(lit) => write_cut(sink, sig, lit),
     }
 }

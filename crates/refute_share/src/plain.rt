@@ -10,7 +10,9 @@ use crate::refutation::{
 use crate::term::SharedTerm;
 use std::alloc::{AllocError, Global};
 use stt_core::{Nf, Nfs};
-use tableau_calculus::{Children, Line, Lines, Lit, Lits, Refutation, Rows, RuleUse, WitnessRow};
+use tableau_calculus::{
+    Children, Line, Lines, Lit, Lits, PlainRule, Refutation, Rows, RuleUse, WitnessRow,
+};
 
 impl SharedTerm {
     /// The term as a tree.
@@ -56,27 +58,15 @@ impl SharedLits {
 }
 
 /// The rule of trees.
-fn plain_rule(alloc: Global, rule: &SharedRule) -> Result<RuleUse, AllocError>
+fn plain_rule(alloc: Global, rule: &SharedRule) -> Result<PlainRule, AllocError>
     ensures { IfOk result (λ use'. use' ≡ the_rule_use rule.now) }
 {
     match rule {
-        SharedRule::False(i) => Ok(RuleUse::False(*i)),
-        SharedRule::Close(i, j) => Ok(RuleUse::Close(*i, *j)),
-        SharedRule::Refl(i) => Ok(RuleUse::Refl(*i)),
-        SharedRule::ImpPos(i) => Ok(RuleUse::ImpPos(*i)),
-        SharedRule::ImpNeg(i) => Ok(RuleUse::ImpNeg(*i)),
-        SharedRule::BoolPos(i) => Ok(RuleUse::BoolPos(*i)),
-        SharedRule::BoolNeg(i) => Ok(RuleUse::BoolNeg(*i)),
-        SharedRule::FunPos(i) => Ok(RuleUse::FunPos(*i)),
-        SharedRule::FunNeg(i) => Ok(RuleUse::FunNeg(*i)),
-        SharedRule::AllPos(i, term) => Ok(RuleUse::AllPos(*i, term.to_plain(alloc)?)),
-        SharedRule::AllNeg(i) => Ok(RuleUse::AllNeg(*i)),
-        SharedRule::Mat(i, j) => Ok(RuleUse::Mat(*i, *j)),
-        SharedRule::Dec(i) => Ok(RuleUse::Dec(*i)),
-        SharedRule::Con(i, j) => Ok(RuleUse::Con(*i, *j)),
-        SharedRule::Cho(predicate) => Ok(RuleUse::Cho(predicate.to_plain(alloc)?)),
-        SharedRule::Des(predicate) => Ok(RuleUse::Des(predicate.to_plain(alloc)?)),
-        SharedRule::Cut(lit) => Ok(RuleUse::Cut(lit.to_plain(alloc)?)),
+        RuleUse::AtOne(kind, i) => Ok(RuleUse::AtOne(*kind, *i)),
+        RuleUse::AtTwo(kind, i, j) => Ok(RuleUse::AtTwo(*kind, *i, *j)),
+        RuleUse::AllPos(i, term) => Ok(RuleUse::AllPos(*i, term.to_plain(alloc)?)),
+        RuleUse::WithPredicate(kind, f) => Ok(RuleUse::WithPredicate(*kind, f.to_plain(alloc)?)),
+        RuleUse::Cut(lit) => Ok(RuleUse::Cut(lit.to_plain(alloc)?)),
     }
 }
 

@@ -8,53 +8,10 @@ use std::alloc::{AllocError, Global};
 use std::marker::Model;
 use std::rc::Rc;
 use stt_core::Ty;
-use tableau_calculus::Children;
+use tableau_calculus::{Children, RuleUse};
 
-/// A rule with what its instance takes. A number is the place of a principal in the branch, from 0.
-pub enum SharedRule {
-    False(usize),
-    Close(usize, usize),
-    Refl(usize),
-    ImpPos(usize),
-    ImpNeg(usize),
-    BoolPos(usize),
-    BoolNeg(usize),
-    FunPos(usize),
-    FunNeg(usize),
-    AllPos(usize, Rc<SharedTerm>),
-    AllNeg(usize),
-    Mat(usize, usize),
-    Dec(usize),
-    Con(usize, usize),
-    Cho(Rc<SharedTerm>),
-    Des(Rc<SharedTerm>),
-    Cut(SharedLit),
-}
-
-// Written out, so that a proof takes a drop as one call.
-impl Drop for SharedRule {
-    fn drop(self) {
-        match self {
-            SharedRule::False(_)
-            | SharedRule::Close(_, _)
-            | SharedRule::Refl(_)
-            | SharedRule::ImpPos(_)
-            | SharedRule::ImpNeg(_)
-            | SharedRule::BoolPos(_)
-            | SharedRule::BoolNeg(_)
-            | SharedRule::FunPos(_)
-            | SharedRule::FunNeg(_)
-            | SharedRule::AllPos(_, _)
-            | SharedRule::AllNeg(_)
-            | SharedRule::Mat(_, _)
-            | SharedRule::Dec(_)
-            | SharedRule::Con(_, _)
-            | SharedRule::Cho(_)
-            | SharedRule::Des(_)
-            | SharedRule::Cut(_) => {}
-        }
-    }
-}
+/// A rule with what its instance takes. A place counts from 0.
+pub type SharedRule = RuleUse<usize, Rc<SharedTerm>, SharedLit>;
 
 /// A line of a refutation: a branch, and the rule that closes it with the children.
 #[derive(Drop)]

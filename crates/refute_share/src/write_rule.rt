@@ -12,7 +12,9 @@ use crate::term::SharedTerm;
 use crate::write_bytes::write_numbered;
 use crate::write_term::write_term_between;
 use outside::{Failed, Sink};
+use refute_print::{one_place_mark, predicate_mark, two_places_mark};
 use stt_core::Signature;
+use tableau_calculus::RuleUse;
 
 /// Writes a rule with two places.
 fn write_two_places<S: Sink>(
@@ -77,22 +79,12 @@ pub(crate) fn write_rule<S: Sink>(
         (rule_text (named_rule (names_of sig.now.bases sig.now.consts) (the_rule_use rule.now)))) }
 {
     match rule {
-        SharedRule::False(i) => write_numbered(sink, b"False(", *i, b")"),
-        SharedRule::Close(i, j) => write_two_places(sink, b"Close(", *i, *j),
-        SharedRule::Refl(i) => write_numbered(sink, b"Refl(", *i, b")"),
-        SharedRule::ImpPos(i) => write_numbered(sink, b"Imp+(", *i, b")"),
-        SharedRule::ImpNeg(i) => write_numbered(sink, b"Imp-(", *i, b")"),
-        SharedRule::BoolPos(i) => write_numbered(sink, b"Bool+(", *i, b")"),
-        SharedRule::BoolNeg(i) => write_numbered(sink, b"Bool-(", *i, b")"),
-        SharedRule::FunPos(i) => write_numbered(sink, b"Fun+(", *i, b")"),
-        SharedRule::FunNeg(i) => write_numbered(sink, b"Fun-(", *i, b")"),
-        SharedRule::AllPos(i, term) => write_instance(sink, sig, *i, term),
-        SharedRule::AllNeg(i) => write_numbered(sink, b"All-(", *i, b")"),
-        SharedRule::Mat(i, j) => write_two_places(sink, b"Mat(", *i, *j),
-        SharedRule::Dec(i) => write_numbered(sink, b"Dec(", *i, b")"),
-        SharedRule::Con(i, j) => write_two_places(sink, b"Con(", *i, *j),
-        SharedRule::Cho(predicate) => write_term_between(sink, sig, b"Cho(", predicate, b")"),
-        SharedRule::Des(predicate) => write_term_between(sink, sig, b"Des(", predicate, b")"),
-        SharedRule::Cut(lit) => write_cut(sink, sig, lit),
+        RuleUse::AtOne(kind, i) => write_numbered(sink, one_place_mark(*kind), *i, b")"),
+        RuleUse::AtTwo(kind, i, j) => write_two_places(sink, two_places_mark(*kind), *i, *j),
+        RuleUse::AllPos(i, term) => write_instance(sink, sig, *i, term),
+        RuleUse::WithPredicate(kind, f) => {
+            write_term_between(sink, sig, predicate_mark(*kind), f, b")")
+        }
+        RuleUse::Cut(lit) => write_cut(sink, sig, lit),
     }
 }

@@ -27,7 +27,7 @@ pub bind_sound : {A B : Type 0} {P : Type 0} (o : Option A) (f : A → Option B)
 bind_sound (Some x) f y h k = k x refl h
 bind_sound None f y h k = cc
 
-pub front_sound : {A : Type 0} {P : Type 0} (o : Option (List ℕ)) (f : List ℕ → Option A) (other : Option A) (y : A) → by_front o f other ≡ Some y → ((rest : List ℕ) → o ≡ Some rest → f rest ≡ Some y → P) → (other ≡ Some y → P) → P
+pub front_sound : {A X : Type 0} {P : Type 0} (o : Option X) (f : X → Option A) (other : Option A) (y : A) → by_front o f other ≡ Some y → ((rest : X) → o ≡ Some rest → f rest ≡ Some y → P) → (other ≡ Some y → P) → P
 front_sound (Some rest) f other y h k m = k rest refl h
 front_sound None f other y h k m = m h
 

@@ -2,12 +2,20 @@
 use Rattle.std.proofs.Common.{◌≡◌, ℕ, ◌^◌, ◌<◌, List, [], ◌++◌, Option, Some, None, codes, decimal, refl, sym, ap, ◌∙◌, append_assoc, append-nil, arith, if◌then◌else◌}
 use Rattle.std.proofs.lemmas.Bool.{eq-eqb}
 use Rattle.tableau_calculus.specs.declared.refutation.Child.{Child}
-use Rattle.refute_print.specs.Trees.{TermTree, LiteralTree, OnePlace, False, Refl, ImpPos, ImpNeg, BoolPos, BoolNeg, FunPos, FunNeg, AllNeg, Dec, TwoPlaces, Close, Mat, Con, OfPredicate, Cho, Des, RuleTree, at_one, at_two, with_instance, with_predicate, with_cut, LineTree}
+use Rattle.tableau_calculus.specs.declared.rule_use.OnePlace.{OnePlace}
+use Rattle.tableau_calculus.specs.declared.rule_use.OnePlace.TheVariants.{False}
+use Rattle.tableau_calculus.specs.declared.rule_use.TwoPlaces.{TwoPlaces}
+use Rattle.tableau_calculus.specs.declared.rule_use.TwoPlaces.TheVariants.{Close}
+use Rattle.tableau_calculus.specs.declared.rule_use.OfPredicate.{OfPredicate}
+use Rattle.tableau_calculus.specs.declared.rule_use.OfPredicate.TheVariants.{Cho}
+use Rattle.tableau_calculus.specs.declared.rule_use.RuleUse.{RuleUse}
+use Rattle.tableau_calculus.specs.declared.rule_use.RuleUse.TheVariants.{AtOne, AtTwo, AllPos, WithPredicate, Cut}
+use Rattle.refute_print.specs.Trees.{TermTree, LiteralTree, LineTree}
 use Rattle.refute_print.specs.Text.{term_text, literal_text, rule_text, row_text, branch_text, children_text, line_text}
 use Rattle.refute_print.specs.Limits.{greatest_depth, IsWithinLimits, IsLiteralText, IsRule, IsLine}
 use Rattle.refute_text.specs.Internal.Reader.{number_at}
 use Rattle.refute_text.specs.Internal.TermReader.{term_text_at}
-use Rattle.refute_text.specs.Internal.LineReader.{literal_text_at, child_at, items_at, place_text_at, one_place_at, places_at, two_places_at, instance_at, predicate_at, cut_at, one_place_rule_at, rule_at, where_number, row_at, children_at, behind_rule_at, lists_at, line_at}
+use Rattle.refute_text.specs.Internal.LineReader.{literal_text_at, child_at, items_at, place_text_at, one_place_at, places_at, two_places_at, instance_at, predicate_at, cut_at, one_place_named, two_places_named, predicate_named, rule_at, where_number, row_at, children_at, behind_rule_at, lists_at, line_at}
 use Rattle.refute_text.proofs.Inversions.{found}
 use Rattle.refute_text.proofs.Answers.{bind_gives}
 use Rattle.refute_text.proofs.NameBack.{number_at-decimal}
@@ -20,60 +28,51 @@ place_back i rest small =
     ap place_text_at (append_assoc (decimal i) (codes ")") rest)
     ∙ bind_gives (number_at (2 ^ 64) (decimal i ++ end)) _ (i, end) (i, rest) (number_at-decimal (2 ^ 64) i end small (omega arith) refl) refl
 
-one_place_back : (rule : OnePlace) (i : ℕ) (rest : List ℕ) → i < 2 ^ 64 → one_place_at rule ((decimal i ++ codes ")") ++ rest) ≡ found (at_one rule i) rest
+one_place_back : (rule : OnePlace) (i : ℕ) (rest : List ℕ) → i < 2 ^ 64 → one_place_at rule ((decimal i ++ codes ")") ++ rest) ≡ found (AtOne rule i) rest
 one_place_back rule i rest small =
-    bind_gives (place_text_at ((decimal i ++ codes ")") ++ rest)) (λ p. found (at_one rule p.0) p.1) (i, rest) (at_one rule i, rest) (place_back i rest small) refl
+    bind_gives (place_text_at ((decimal i ++ codes ")") ++ rest)) (λ p. found (AtOne rule p.0) p.1) (i, rest) (AtOne rule i, rest) (place_back i rest small) refl
 
-two_places_back : (rule : TwoPlaces) (i j : ℕ) (rest : List ℕ) → i < 2 ^ 64 → j < 2 ^ 64 → two_places_at rule ((decimal i ++ (codes "," ++ (decimal j ++ codes ")"))) ++ rest) ≡ found (at_two rule i j) rest
+two_places_back : (rule : TwoPlaces) (i j : ℕ) (rest : List ℕ) → i < 2 ^ 64 → j < 2 ^ 64 → two_places_at rule ((decimal i ++ (codes "," ++ (decimal j ++ codes ")"))) ++ rest) ≡ found (AtTwo rule i j) rest
 two_places_back rule i j rest small small' =
     let second = (decimal j ++ codes ")") ++ rest in
     ap (two_places_at rule) (append_assoc (decimal i) (codes "," ++ (decimal j ++ codes ")")) rest)
-    ∙ bind_gives (places_at (decimal i ++ (codes "," ++ second))) (λ p. found (at_two rule p.0.0 p.0.1) p.1) ((i, j), rest) (at_two rule i j, rest)
+    ∙ bind_gives (places_at (decimal i ++ (codes "," ++ second))) (λ p. found (AtTwo rule p.0.0 p.0.1) p.1) ((i, j), rest) (AtTwo rule i j, rest)
     (bind_gives (number_at (2 ^ 64) (decimal i ++ (codes "," ++ second))) _ (i, codes "," ++ second) ((i, j), rest) (number_at-decimal (2 ^ 64) i (codes "," ++ second) small (omega arith) refl)
     (bind_gives (place_text_at second) (λ p. found (i, p.0) p.1) (j, rest) ((i, j), rest) (place_back j rest small') refl)) refl
 
-instance_back : (i : ℕ) (u : TermTree) (rest : List ℕ) → i < 2 ^ 64 → IsWithinLimits u → instance_at ((decimal i ++ (codes ";" ++ (term_text u ++ codes ")"))) ++ rest) ≡ found (with_instance i u) rest
+instance_back : (i : ℕ) (u : TermTree) (rest : List ℕ) → i < 2 ^ 64 → IsWithinLimits u → instance_at ((decimal i ++ (codes ";" ++ (term_text u ++ codes ")"))) ++ rest) ≡ found (AllPos i u) rest
 instance_back i u rest small within =
     let end = codes ")" ++ rest in
     let second = codes ";" ++ (term_text u ++ end) in
     ap instance_at (regroup (decimal i) (term_text u) rest)
-    ∙ bind_gives (number_at (2 ^ 64) (decimal i ++ second)) _ (i, second) (with_instance i u, rest) (number_at-decimal (2 ^ 64) i second small (omega arith) refl)
-    (bind_gives (term_text_at greatest_depth (term_text u ++ end)) _ (u, end) (with_instance i u, rest) (within_back u end within refl) refl)
+    ∙ bind_gives (number_at (2 ^ 64) (decimal i ++ second)) _ (i, second) (AllPos i u, rest) (number_at-decimal (2 ^ 64) i second small (omega arith) refl)
+    (bind_gives (term_text_at greatest_depth (term_text u ++ end)) _ (u, end) (AllPos i u, rest) (within_back u end within refl) refl)
   where
     regroup : (i u r : List ℕ) → (i ++ (codes ";" ++ (u ++ codes ")"))) ++ r ≡ i ++ (codes ";" ++ (u ++ (codes ")" ++ r)))
     regroup i u r = simp append_assoc
 
-predicate_back : (name : OfPredicate) (f : TermTree) (rest : List ℕ) → IsWithinLimits f → predicate_at name ((term_text f ++ codes ")") ++ rest) ≡ found (with_predicate name f) rest
+predicate_back : (name : OfPredicate) (f : TermTree) (rest : List ℕ) → IsWithinLimits f → predicate_at name ((term_text f ++ codes ")") ++ rest) ≡ found (WithPredicate name f) rest
 predicate_back name f rest within =
     let end = codes ")" ++ rest in
     ap (predicate_at name) (append_assoc (term_text f) (codes ")") rest)
-    ∙ bind_gives (term_text_at greatest_depth (term_text f ++ end)) _ (f, end) (with_predicate name f, rest) (within_back f end within refl) refl
+    ∙ bind_gives (term_text_at greatest_depth (term_text f ++ end)) _ (f, end) (WithPredicate name f, rest) (within_back f end within refl) refl
 
-cut_back : (l : LiteralTree) (rest : List ℕ) → IsLiteralText l → cut_at ((literal_text l ++ codes ")") ++ rest) ≡ found (with_cut l) rest
+cut_back : (l : LiteralTree) (rest : List ℕ) → IsLiteralText l → cut_at ((literal_text l ++ codes ")") ++ rest) ≡ found (Cut l) rest
 cut_back l rest is =
     let end = codes ")" ++ rest in
     ap cut_at (append_assoc (literal_text l) (codes ")") rest)
-    ∙ bind_gives (literal_text_at (literal_text l ++ end)) _ (l, end) (with_cut l, rest) (literal_at-text l end is refl) refl
+    ∙ bind_gives (literal_text_at (literal_text l ++ end)) _ (l, end) (Cut l, rest) (literal_at-text l end is refl) refl
 
-pub rule_at-text : (r : RuleTree) (rest : List ℕ) → IsRule r → rule_at (rule_text r ++ rest) ≡ Some (r, rest)
-unfolding rule_at one_place_rule_at
-rule_at-text (at_one False i) rest h = one_place_back False i rest h
-rule_at-text (at_one Refl i) rest h = one_place_back Refl i rest h
-rule_at-text (at_one ImpPos i) rest h = one_place_back ImpPos i rest h
-rule_at-text (at_one ImpNeg i) rest h = one_place_back ImpNeg i rest h
-rule_at-text (at_one BoolPos i) rest h = one_place_back BoolPos i rest h
-rule_at-text (at_one BoolNeg i) rest h = one_place_back BoolNeg i rest h
-rule_at-text (at_one FunPos i) rest h = one_place_back FunPos i rest h
-rule_at-text (at_one FunNeg i) rest h = one_place_back FunNeg i rest h
-rule_at-text (at_one AllNeg i) rest h = one_place_back AllNeg i rest h
-rule_at-text (at_one Dec i) rest h = one_place_back Dec i rest h
-rule_at-text (at_two Close i j) rest h = two_places_back Close i j rest h.0 h.1
-rule_at-text (at_two Mat i j) rest h = two_places_back Mat i j rest h.0 h.1
-rule_at-text (at_two Con i j) rest h = two_places_back Con i j rest h.0 h.1
-rule_at-text (with_instance i u) rest h = instance_back i u rest h.0 h.1
-rule_at-text (with_predicate Cho f) rest h = predicate_back Cho f rest h
-rule_at-text (with_predicate Des f) rest h = predicate_back Des f rest h
-rule_at-text (with_cut l) rest h = cut_back l rest h
+pub rule_at-text : (r : RuleUse ℕ TermTree LiteralTree) (rest : List ℕ) → IsRule r → rule_at (rule_text r ++ rest) ≡ Some (r, rest)
+unfolding rule_at one_place_named two_places_named predicate_named
+rule_at-text (AtOne False i) rest h = one_place_back False i rest h
+rule_at-text (AtOne r i) rest h = one_place_back r i rest h
+rule_at-text (AtTwo Close i j) rest h = two_places_back Close i j rest h.0 h.1
+rule_at-text (AtTwo r i j) rest h = two_places_back r i j rest h.0 h.1
+rule_at-text (AllPos i u) rest h = instance_back i u rest h.0 h.1
+rule_at-text (WithPredicate Cho f) rest h = predicate_back Cho f rest h
+rule_at-text (WithPredicate r f) rest h = predicate_back r f rest h
+rule_at-text (Cut l) rest h = cut_back l rest h
 
 number_back : (k : ℕ) (rest : List ℕ) (o : Option (ℕ × List ℕ)) → o ≡ found k rest → where_number k o ≡ Some rest
 number_back k rest o e = ap (where_number k) e ∙ ap (λ b. if b then Some rest else None) (eq-eqb k k refl)

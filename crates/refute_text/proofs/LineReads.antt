@@ -2,8 +2,8 @@
 use Rattle.std.proofs.Common.{◌≡◌, ℕ, zero, suc, ◌^◌, ◌<◌, ◌≤◌, ◌==◌, Bool, true, false, List, [], ◌∷◌, ◌++◌, Option, Some, None, length, map, codes, decimal, refl, sym, ap, ap₂, subst, ◌∙◌, append_assoc, append-nil, arith, if◌then◌else◌}
 use Rattle.std.specs.List.{AllByRecursion}
 use Rattle.std.proofs.lemmas.Bool.{eqb-true}
-use Rattle.tableau_calculus.specs.declared.refutation.Child.{Child}
-use Rattle.refute_print.specs.Trees.{TermTree, LiteralTree, RuleTree, LineTree}
+use Rattle.tableau_calculus.specs.declared.rule_use.RuleUse.{RuleUse}
+use Rattle.refute_print.specs.Trees.{TermTree, LiteralTree, LineTree}
 use Rattle.refute_print.specs.Text.{term_text, literal_text, child_text, after_commas, comma_separated, branch_text, children_text, rule_text, row_text, line_text}
 use Rattle.refute_print.specs.Limits.{greatest_depth, IsWithinLimits, IsLiteralText, IsRule, IsChild, IsLine}
 use Rattle.refute_text.specs.Internal.Reader.{behind_text, number_at, with_items, repeated_at}
@@ -138,7 +138,7 @@ pub record IsLineText (k : ℕ) (line : List ℕ) (l : LineTree) : Type 0 where
   pub is_line : IsLine l
 
 -- what stands behind a rule
-record ListsStand (bs : List ℕ) (rule : RuleTree) (l : LineTree) : Type 0 where
+record ListsStand (bs : List ℕ) (rule : RuleUse ℕ TermTree LiteralTree) (l : LineTree) : Type 0 where
   text : bs ≡ codes " [" ++ (branch_text l.branch ++ (codes "] [" ++ (children_text l.children ++ codes "]")))
   rule_is : l.rule ≡ rule
   branch : AllByRecursion IsLiteralText l.branch
@@ -147,7 +147,7 @@ record ListsStand (bs : List ℕ) (rule : RuleTree) (l : LineTree) : Type 0 wher
 line_is : (a b : LineTree) → Some a ≡ Some b → a ≡ b
 line_is a b e = cc
 
-lists_read : (rule : RuleTree) (bs : List ℕ) (l : LineTree) → lists_at rule bs ≡ Some l → ListsStand bs rule l
+lists_read : (rule : RuleUse ℕ TermTree LiteralTree) (bs : List ℕ) (l : LineTree) → lists_at rule bs ≡ Some l → ListsStand bs rule l
 unfolding lists_at behind_rule_at
 lists_read rule bs l h =
     bind_sound (behind_rule_at bs) (λ lists. Some (with_lists rule lists)) l h (λ lists at0 h2.

@@ -9,7 +9,15 @@ use Rattle.tableau_calculus.specs.declared.refutation.Child.TheVariants.{Closed,
 use Rattle.thf_grammar.specs.Printable.{is_printable}
 use Rattle.thf_names.specs.Names.{is_lower_word, escaped, quoted, name_text}
 use Rattle.refute_print.specs.Letters.{is_printable_name}
-use Rattle.refute_print.specs.Trees.{TextTypeTree, formula, individual, named, arrow, ConstantTree, name, witness, falsity, negation, implication, all, equality, choice, description, TermTree, bound, constant, lam, app, LiteralTree, OnePlace, False, Refl, ImpPos, ImpNeg, BoolPos, BoolNeg, FunPos, FunNeg, AllNeg, Dec, TwoPlaces, Close, Mat, Con, OfPredicate, Cho, Des, RuleTree, at_one, at_two, with_instance, with_predicate, with_cut, LineTree, RefutationTree}
+use Rattle.tableau_calculus.specs.declared.rule_use.OnePlace.{OnePlace}
+use Rattle.tableau_calculus.specs.declared.rule_use.OnePlace.TheVariants.{False}
+use Rattle.tableau_calculus.specs.declared.rule_use.TwoPlaces.{TwoPlaces}
+use Rattle.tableau_calculus.specs.declared.rule_use.TwoPlaces.TheVariants.{Close}
+use Rattle.tableau_calculus.specs.declared.rule_use.OfPredicate.{OfPredicate}
+use Rattle.tableau_calculus.specs.declared.rule_use.OfPredicate.TheVariants.{Cho}
+use Rattle.tableau_calculus.specs.declared.rule_use.RuleUse.{RuleUse}
+use Rattle.tableau_calculus.specs.declared.rule_use.RuleUse.TheVariants.{AtOne, AtTwo, AllPos, WithPredicate, Cut}
+use Rattle.refute_print.specs.Trees.{TextTypeTree, formula, individual, named, arrow, ConstantTree, name, witness, falsity, negation, implication, all, equality, choice, description, TermTree, bound, constant, lam, app, LiteralTree, LineTree, RefutationTree}
 use Rattle.refute_print.specs.Text.{version_text, definition_text, text_of_type, constant_text, term_text, spine_text, sign_text, literal_text, after_commas, comma_separated, branch_text, child_text, children_text, one_place_name, two_places_name, predicate_name, rule_text, row_text, line_text, row_texts, line_texts, text_lines}
 use Rattle.refute_print.specs.Limits.{IsPrintableType, IsConstant, IsTerm, IsSpine, IsWithinLimits, IsLiteralText, IsRule, IsChild, IsLine}
 use Rattle.outside.specs.Decimal.{is_digit}
@@ -113,36 +121,27 @@ child_printable (Numbered k) h = decimal_printable k h
 
 one_place_printable : (r : OnePlace) → IsPrintable (one_place_name r)
 one_place_printable False = refl
-one_place_printable Refl = refl
-one_place_printable ImpPos = refl
-one_place_printable ImpNeg = refl
-one_place_printable BoolPos = refl
-one_place_printable BoolNeg = refl
-one_place_printable FunPos = refl
-one_place_printable FunNeg = refl
-one_place_printable AllNeg = refl
-one_place_printable Dec = refl
+one_place_printable r = refl
 
 two_places_printable : (r : TwoPlaces) → IsPrintable (two_places_name r)
 two_places_printable Close = refl
-two_places_printable Mat = refl
-two_places_printable Con = refl
+two_places_printable r = refl
 
 predicate_printable : (r : OfPredicate) → IsPrintable (predicate_name r)
 predicate_printable Cho = refl
-predicate_printable Des = refl
+predicate_printable r = refl
 
-rule_printable : (r : RuleTree) → IsRule r → IsPrintable (rule_text r)
-rule_printable (at_one r i) h =
+rule_printable : (r : RuleUse ℕ TermTree LiteralTree) → IsRule r → IsPrintable (rule_text r)
+rule_printable (AtOne r i) h =
     both (one_place_name r) (codes "(" ++ (decimal i ++ codes ")")) (one_place_printable r) (both (decimal i) (codes ")") (decimal_printable i h) refl)
-rule_printable (at_two r i j) h =
+rule_printable (AtTwo r i j) h =
     both (two_places_name r) (codes "(" ++ (decimal i ++ (codes "," ++ (decimal j ++ codes ")")))) (two_places_printable r)
     (both (decimal i) (codes "," ++ (decimal j ++ codes ")")) (decimal_printable i h.0) (both (decimal j) (codes ")") (decimal_printable j h.1) refl))
-rule_printable (with_instance i u) h =
+rule_printable (AllPos i u) h =
     both (decimal i) (codes ";" ++ (term_text u ++ codes ")")) (decimal_printable i h.0) (both (term_text u) (codes ")") (term_printable u h.1.is_term) refl)
-rule_printable (with_predicate r f) h =
+rule_printable (WithPredicate r f) h =
     both (predicate_name r) (codes "(" ++ (term_text f ++ codes ")")) (predicate_printable r) (both (term_text f) (codes ")") (term_printable f h.is_term) refl)
-rule_printable (with_cut l) h = both (literal_text l) (codes ")") (literal_printable l h) refl
+rule_printable (Cut l) h = both (literal_text l) (codes ")") (literal_printable l h) refl
 
 row_printable : (k : ℕ) (t : TermTree) → k < 2 ^ 64 → IsWithinLimits t → IsPrintable (row_text k t)
 row_printable k t small h = both (decimal k) (codes " " ++ term_text t) (decimal_printable k small) (term_printable t h.is_term)

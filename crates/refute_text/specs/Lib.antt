@@ -3,7 +3,6 @@ pub use Rattle.outside.specs.Fronts
 pub use Rattle.outside.specs.Lines
 pub use Rattle.refute_print.specs.Letters
 pub use Rattle.refute_print.specs.Limits
-pub use Rattle.refute_print.specs.LineView
 pub use Rattle.refute_print.specs.Text
 pub use Rattle.refute_print.specs.TextView
 pub use Rattle.refute_print.specs.TreeView

@@ -4,7 +4,6 @@ ghost use Rattle.std.specs.Prelude.{◌≡◌, ◌^◌, length, codes};
 ghost use Rattle.refute_text.specs.Internal.Reader.{number_at, repeated_at, with_items};
 ghost use Rattle.refute_text.specs.Internal.LineReader.{literal_text_at, child_at, items_at, where_number, end_at, definition_at, row_at, branch_at, children_at, behind_rule_at, lists_at, line_at};
 ghost use Rattle.refute_text.specs.Internal.Refusals.{AnswersReader};
-ghost use Rattle.refute_print.specs.LineView.{the_rule};
 ghost use Rattle.refute_print.specs.TextView.{the_line};
 
 use crate::known::Known;
@@ -245,7 +244,7 @@ fn lists<'a>(
     rule: TextRule,
     bytes: &'a [u8],
 ) -> Result<TextLine, Refusal>
-    ensures { AnswersReader (λ l. the_line l) result (lists_at (the_rule rule) bytes.now) }
+    ensures { AnswersReader (λ l. the_line l) result (lists_at rule bytes.now) }
 {
     match behind_rule(alloc, known, bytes) {
         Ok(lists) => Ok(TextLine {

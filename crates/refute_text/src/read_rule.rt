@@ -1,12 +1,10 @@
 //! Reads literals and rules.
 
-ghost use Rattle.std.specs.Prelude.{◌≡◌, ◌^◌};
+ghost use Rattle.std.specs.Prelude.{◌≡◌, ◌^◌, option_map};
 ghost use Rattle.refute_print.specs.Limits.{is_negated_text};
-ghost use Rattle.refute_print.specs.Trees.{Cho, Des};
 ghost use Rattle.refute_text.specs.Internal.Reader.{number_at};
-ghost use Rattle.refute_text.specs.Internal.LineReader.{signed_text_at, literal_text_at, place_text_at, places_at, instance_at, predicate_at, cut_at, one_place_rule_at, rule_at};
+ghost use Rattle.refute_text.specs.Internal.LineReader.{signed_text_at, literal_text_at, place_text_at, one_place_named, two_places_named, predicate_named, one_place_at, places_at, two_places_at, instance_at, predicate_at, cut_at, rule_at};
 ghost use Rattle.refute_text.specs.Internal.Refusals.{AnswersReader};
-ghost use Rattle.refute_print.specs.LineView.{the_rule};
 ghost use Rattle.refute_print.specs.TreeView.{the_text_head};
 
 use crate::read_name::{behind, number};
@@ -15,6 +13,7 @@ use crate::read_type::expect;
 use crate::refusal::Refusal;
 use refute_print::{TextHead, TextLit, TextNode, TextRule, TextTerm};
 use std::alloc::Global;
+use tableau_calculus::{OfPredicate, OnePlace, RuleUse, TwoPlaces};
 
 /// How many parentheses, brackets and functions of types and terms may be open at once.
 pub(crate) const DEPTH: u32 = 8192;
@@ -113,47 +112,88 @@ pub(crate) struct RuleRead<'a> {
     pub rest: &'a [u8],
 }
 
-/// A rule of one place.
-#[tactic(auto, unfolding(crate::specs::Internal::LineReader::one_place_rule_at))]
-fn one_place_rule(bytes: &[u8]) -> Result<RuleRead<'_>, Refusal>
-    ensures { AnswersReader (λ r. (the_rule r.rule, r.rest.now)) result (one_place_rule_at bytes.now) }
-{
-    let (rule, rest) = if let Some(rest) = behind(b"False(", bytes) {
-        let read = place(rest)?;
-        (TextRule::False(read.place), read.rest)
-    } else if let Some(rest) = behind(b"Refl(", bytes) {
-        let read = place(rest)?;
-        (TextRule::Refl(read.place), read.rest)
-    } else if let Some(rest) = behind(b"Imp+(", bytes) {
-        let read = place(rest)?;
-        (TextRule::ImpPos(read.place), read.rest)
-    } else if let Some(rest) = behind(b"Imp-(", bytes) {
-        let read = place(rest)?;
-        (TextRule::ImpNeg(read.place), read.rest)
-    } else if let Some(rest) = behind(b"Bool+(", bytes) {
-        let read = place(rest)?;
-        (TextRule::BoolPos(read.place), read.rest)
-    } else if let Some(rest) = behind(b"Bool-(", bytes) {
-        let read = place(rest)?;
-        (TextRule::BoolNeg(read.place), read.rest)
-    } else if let Some(rest) = behind(b"Fun+(", bytes) {
-        let read = place(rest)?;
-        (TextRule::FunPos(read.place), read.rest)
-    } else if let Some(rest) = behind(b"Fun-(", bytes) {
-        let read = place(rest)?;
-        (TextRule::FunNeg(read.place), read.rest)
-    } else if let Some(rest) = behind(b"All-(", bytes) {
-        let read = place(rest)?;
-        (TextRule::AllNeg(read.place), read.rest)
-    } else {
-        let rest = expect(b"Dec(", bytes)?;
-        let read = place(rest)?;
-        (TextRule::Dec(read.place), read.rest)
-    };
-    Ok(RuleRead { rule, rest })
+/// A rule whose name is at the front, and what follows the parenthesis behind the name.
+#[derive(Drop)]
+struct RuleNamed<'a, K> {
+    rule: K,
+    rest: &'a [u8],
 }
 
-/// A rule of two places, which gives the first and the second.
+/// A rule of one place.
+#[tactic(auto, unfolding(crate::specs::Internal::LineReader::one_place_named))]
+fn one_place_named(bytes: &[u8]) -> Option<RuleNamed<'_, OnePlace>>
+    ensures { option_map (λ n. (n.rule, n.rest.now)) result ≡ one_place_named bytes.now }
+{
+    let (rule, rest) = if let Some(rest) = behind(b"False(", bytes) {
+        (OnePlace::False, rest)
+    } else if let Some(rest) = behind(b"Refl(", bytes) {
+        (OnePlace::Refl, rest)
+    } else if let Some(rest) = behind(b"Imp+(", bytes) {
+        (OnePlace::ImpPos, rest)
+    } else if let Some(rest) = behind(b"Imp-(", bytes) {
+        (OnePlace::ImpNeg, rest)
+    } else if let Some(rest) = behind(b"Bool+(", bytes) {
+        (OnePlace::BoolPos, rest)
+    } else if let Some(rest) = behind(b"Bool-(", bytes) {
+        (OnePlace::BoolNeg, rest)
+    } else if let Some(rest) = behind(b"Fun+(", bytes) {
+        (OnePlace::FunPos, rest)
+    } else if let Some(rest) = behind(b"Fun-(", bytes) {
+        (OnePlace::FunNeg, rest)
+    } else if let Some(rest) = behind(b"All-(", bytes) {
+        (OnePlace::AllNeg, rest)
+    } else if let Some(rest) = behind(b"Dec(", bytes) {
+        (OnePlace::Dec, rest)
+    } else {
+        return None;
+    };
+    Some(RuleNamed { rule, rest })
+}
+
+/// A rule of two places.
+#[tactic(auto, unfolding(crate::specs::Internal::LineReader::two_places_named))]
+fn two_places_named(bytes: &[u8]) -> Option<RuleNamed<'_, TwoPlaces>>
+    ensures { option_map (λ n. (n.rule, n.rest.now)) result ≡ two_places_named bytes.now }
+{
+    let (rule, rest) = if let Some(rest) = behind(b"Close(", bytes) {
+        (TwoPlaces::Close, rest)
+    } else if let Some(rest) = behind(b"Mat(", bytes) {
+        (TwoPlaces::Mat, rest)
+    } else if let Some(rest) = behind(b"Con(", bytes) {
+        (TwoPlaces::Con, rest)
+    } else {
+        return None;
+    };
+    Some(RuleNamed { rule, rest })
+}
+
+/// A rule that takes a predicate.
+#[tactic(auto, unfolding(crate::specs::Internal::LineReader::predicate_named))]
+fn predicate_named(bytes: &[u8]) -> Option<RuleNamed<'_, OfPredicate>>
+    ensures { option_map (λ n. (n.rule, n.rest.now)) result ≡ predicate_named bytes.now }
+{
+    let (rule, rest) = if let Some(rest) = behind(b"Cho(", bytes) {
+        (OfPredicate::Cho, rest)
+    } else if let Some(rest) = behind(b"Des(", bytes) {
+        (OfPredicate::Des, rest)
+    } else {
+        return None;
+    };
+    Some(RuleNamed { rule, rest })
+}
+
+/// The place of a rule that takes one.
+fn at_one(rule: OnePlace, bytes: &[u8]) -> Result<RuleRead<'_>, Refusal>
+    ensures { AnswersReader (λ r. (r.rule, r.rest.now)) result (one_place_at rule bytes.now) }
+{
+    let read = place(bytes)?;
+    Ok(RuleRead {
+        rule: RuleUse::AtOne(rule, read.place),
+        rest: read.rest,
+    })
+}
+
+/// Two places.
 #[derive(Drop)]
 struct PlacesRead<'a> {
     first: usize,
@@ -174,49 +214,51 @@ fn places(bytes: &[u8]) -> Result<PlacesRead<'_>, Refusal>
     })
 }
 
+/// The places of a rule that takes two.
+fn at_two(rule: TwoPlaces, bytes: &[u8]) -> Result<RuleRead<'_>, Refusal>
+    ensures { AnswersReader (λ r. (r.rule, r.rest.now)) result (two_places_at rule bytes.now) }
+{
+    let read = places(bytes)?;
+    Ok(RuleRead {
+        rule: RuleUse::AtTwo(rule, read.first, read.second),
+        rest: read.rest,
+    })
+}
+
 /// The place and the term of an instance.
 fn instance(alloc: Global, bytes: &[u8]) -> Result<RuleRead<'_>, Refusal>
-    ensures { AnswersReader (λ r. (the_rule r.rule, r.rest.now)) result (instance_at bytes.now) }
+    ensures { AnswersReader (λ r. (r.rule, r.rest.now)) result (instance_at bytes.now) }
 {
     let place = read_number(bytes)?;
     let rest = expect(b";", place.rest)?;
     let term = read_term(alloc, DEPTH, rest)?;
     let rest = expect(b")", term.rest)?;
     Ok(RuleRead {
-        rule: TextRule::AllPos(place.place, term.term),
+        rule: RuleUse::AllPos(place.place, term.term),
         rest,
     })
 }
 
-fn choice(alloc: Global, bytes: &[u8]) -> Result<RuleRead<'_>, Refusal>
-    ensures { AnswersReader (λ r. (the_rule r.rule, r.rest.now)) result (predicate_at Cho bytes.now) }
+/// The predicate of a rule that takes one.
+fn with_predicate(alloc: Global, rule: OfPredicate, bytes: &[u8]) -> Result<RuleRead<'_>, Refusal>
+    ensures { AnswersReader (λ r. (r.rule, r.rest.now)) result (predicate_at rule bytes.now) }
 {
     let term = read_term(alloc, DEPTH, bytes)?;
     let rest = expect(b")", term.rest)?;
     Ok(RuleRead {
-        rule: TextRule::Cho(term.term),
+        rule: RuleUse::WithPredicate(rule, term.term),
         rest,
     })
 }
 
-fn description(alloc: Global, bytes: &[u8]) -> Result<RuleRead<'_>, Refusal>
-    ensures { AnswersReader (λ r. (the_rule r.rule, r.rest.now)) result (predicate_at Des bytes.now) }
-{
-    let term = read_term(alloc, DEPTH, bytes)?;
-    let rest = expect(b")", term.rest)?;
-    Ok(RuleRead {
-        rule: TextRule::Des(term.term),
-        rest,
-    })
-}
-
+/// The literal of a cut.
 fn cut(alloc: Global, bytes: &[u8]) -> Result<RuleRead<'_>, Refusal>
-    ensures { AnswersReader (λ r. (the_rule r.rule, r.rest.now)) result (cut_at bytes.now) }
+    ensures { AnswersReader (λ r. (r.rule, r.rest.now)) result (cut_at bytes.now) }
 {
     let read = read_literal(alloc, bytes)?;
     let rest = expect(b")", read.rest)?;
     Ok(RuleRead {
-        rule: TextRule::Cut(read.literal),
+        rule: RuleUse::Cut(read.literal),
         rest,
     })
 }
@@ -224,27 +266,20 @@ fn cut(alloc: Global, bytes: &[u8]) -> Result<RuleRead<'_>, Refusal>
 /// A rule.
 #[tactic(auto, unfolding(crate::specs::Internal::LineReader::rule_at))]
 pub(crate) fn read_rule(alloc: Global, bytes: &[u8]) -> Result<RuleRead<'_>, Refusal>
-    ensures { AnswersReader (λ r. (the_rule r.rule, r.rest.now)) result (rule_at bytes.now) }
+    ensures { AnswersReader (λ r. (r.rule, r.rest.now)) result (rule_at bytes.now) }
 {
-    let (rule, rest) = if let Some(rest) = behind(b"Close(", bytes) {
-        let read = places(rest)?;
-        (TextRule::Close(read.first, read.second), read.rest)
-    } else if let Some(rest) = behind(b"Mat(", bytes) {
-        let read = places(rest)?;
-        (TextRule::Mat(read.first, read.second), read.rest)
-    } else if let Some(rest) = behind(b"Con(", bytes) {
-        let read = places(rest)?;
-        (TextRule::Con(read.first, read.second), read.rest)
-    } else if let Some(rest) = behind(b"All+(", bytes) {
+    if let Some(named) = one_place_named(bytes) {
+        return at_one(named.rule, named.rest);
+    }
+    if let Some(named) = two_places_named(bytes) {
+        return at_two(named.rule, named.rest);
+    }
+    if let Some(named) = predicate_named(bytes) {
+        return with_predicate(alloc, named.rule, named.rest);
+    }
+    if let Some(rest) = behind(b"All+(", bytes) {
         return instance(alloc, rest);
-    } else if let Some(rest) = behind(b"Cho(", bytes) {
-        return choice(alloc, rest);
-    } else if let Some(rest) = behind(b"Des(", bytes) {
-        return description(alloc, rest);
-    } else if let Some(rest) = behind(b"Cut(", bytes) {
-        return cut(alloc, rest);
-    } else {
-        return one_place_rule(bytes);
-    };
-    Ok(RuleRead { rule, rest })
+    }
+    let rest = expect(b"Cut(", bytes)?;
+    cut(alloc, rest)
 }

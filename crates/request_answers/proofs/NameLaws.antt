@@ -9,8 +9,8 @@ use Rattle.stt_core.proofs.TypeLaws.{given}
 use Rattle.tableau_calculus.specs.Literals.{Literal, IsBranch}
 use Rattle.tableau_calculus.specs.Witnesses.{Row, with_rows, IsTableAfter}
 use Rattle.tableau_calculus.specs.Accepted.{IsTypedUse, AreRightLines, IsAccepted}
-use Rattle.tableau_calculus.specs.declared.refutation.RuleUse.{RuleUse}
-use Rattle.tableau_calculus.specs.declared.refutation.RuleUse.TheVariants as rule
+use Rattle.tableau_calculus.specs.Rules.{PlainRule}
+use Rattle.tableau_calculus.specs.declared.rule_use.RuleUse.TheVariants.{AtOne, AtTwo, AllPos, WithPredicate, Cut}
 use Rattle.tableau_calculus.specs.declared.refutation.Line.{Line}
 use Rattle.tableau_calculus.specs.declared.refutation.Refutation.{Refutation}
 use Rattle.refute_print.specs.Named.{Names, HasTypeNames, HasConstantNames, HasNames, HaveNames, HasRuleNames, RowsHaveNames, LinesHaveNames, IsNamed}
@@ -53,24 +53,12 @@ module _ (names : Names) (scope : Scope) (n : NamesAll names scope) where
   branch_named [] h = tt
   branch_named (l ∷ ls) h = (canonical_named [] formula l.atom h.0.formula, branch_named ls h.1)
 
-  use_named : (r : RuleUse) → IsTypedUse scope r → HasRuleNames names r
-  use_named (rule.False i) h = tt
-  use_named (rule.Close i j) h = tt
-  use_named (rule.Refl i) h = tt
-  use_named (rule.ImpPos i) h = tt
-  use_named (rule.ImpNeg i) h = tt
-  use_named (rule.BoolPos i) h = tt
-  use_named (rule.BoolNeg i) h = tt
-  use_named (rule.FunPos i) h = tt
-  use_named (rule.FunNeg i) h = tt
-  use_named (rule.AllPos i u) h = canonical_named [] h.0 u h.1
-  use_named (rule.AllNeg i) h = tt
-  use_named (rule.Mat i j) h = tt
-  use_named (rule.Dec i) h = tt
-  use_named (rule.Con i j) h = tt
-  use_named (rule.Cho f) h = canonical_named [] (predicate h.0) f h.1
-  use_named (rule.Des f) h = canonical_named [] (predicate h.0) f h.1
-  use_named (rule.Cut l) h = canonical_named [] formula l.atom h.formula
+  use_named : (r : PlainRule) → IsTypedUse scope r → HasRuleNames names r
+  use_named (AtOne k i) h = tt
+  use_named (AtTwo k i j) h = tt
+  use_named (AllPos i u) h = canonical_named [] h.0 u h.1
+  use_named (WithPredicate k f) h = canonical_named [] (predicate h.0) f h.1
+  use_named (Cut l) h = canonical_named [] formula l.atom h.formula
 
   lines_named : (rows : List Row) (earlier lines : List Line) → AreRightLines scope rows earlier lines → LinesHaveNames names lines
   lines_named rows earlier [] h = tt

@@ -15,8 +15,8 @@ use Rattle.stt_core.specs.Typing.{Scope}
 use Rattle.stt_core.specs.Canonical.{IsCanonical}
 use Rattle.tableau_calculus.specs.Literals.{Literal}
 use Rattle.tableau_calculus.specs.Witnesses.{Row, with_rows, IsTableAfter}
-use Rattle.tableau_calculus.specs.declared.refutation.RuleUse.{RuleUse}
-use Rattle.tableau_calculus.specs.declared.refutation.RuleUse.TheVariants as rule
+use Rattle.tableau_calculus.specs.Rules.{PlainRule}
+use Rattle.tableau_calculus.specs.declared.rule_use.RuleUse.TheVariants.{AtOne, AtTwo, AllPos, WithPredicate, Cut}
 use Rattle.tableau_calculus.specs.declared.refutation.Line.{Line}
 use Rattle.tableau_calculus.specs.declared.refutation.Refutation.{Refutation}
 use Rattle.refute_print.specs.Named.{Names, names_of, name_numbered, named_type, named_constant, named_term, named_literal, named_rule, named_line, named_refutation, HasTypeNames, HasConstantNames, HasNames, HaveNames, HasRuleNames, LinesHaveNames, RowsHaveNames, IsNamed}
@@ -102,29 +102,17 @@ module _ (names : Names) (p : AllPlaced names) where
   branch-same [] h = refl
   branch-same (l ∷ ls) h = ap₂ (λ x xs. x ∷ xs) (literal-same l h.0) (branch-same ls h.1)
 
-  rule-same : (r : RuleUse) → HasRuleNames names r → numbered_rule names (named_rule names r) ≡ r
-  rule-same (rule.False i) h = refl
-  rule-same (rule.Close i j) h = refl
-  rule-same (rule.Refl i) h = refl
-  rule-same (rule.ImpPos i) h = refl
-  rule-same (rule.ImpNeg i) h = refl
-  rule-same (rule.BoolPos i) h = refl
-  rule-same (rule.BoolNeg i) h = refl
-  rule-same (rule.FunPos i) h = refl
-  rule-same (rule.FunNeg i) h = refl
-  rule-same (rule.AllPos i u) h = ap (rule.AllPos i) (term-same u h)
-  rule-same (rule.AllNeg i) h = refl
-  rule-same (rule.Mat i j) h = refl
-  rule-same (rule.Dec i) h = refl
-  rule-same (rule.Con i j) h = refl
-  rule-same (rule.Cho f) h = ap rule.Cho (term-same f h)
-  rule-same (rule.Des f) h = ap rule.Des (term-same f h)
-  rule-same (rule.Cut l) h = ap rule.Cut (literal-same l h)
+  rule-same : (r : PlainRule) → HasRuleNames names r → numbered_rule names (named_rule names r) ≡ r
+  rule-same (AtOne k i) h = refl
+  rule-same (AtTwo k i j) h = refl
+  rule-same (AllPos i u) h = ap (AllPos i) (term-same u h)
+  rule-same (WithPredicate k f) h = ap (WithPredicate k) (term-same f h)
+  rule-same (Cut l) h = ap Cut (literal-same l h)
 
   lines-same : (lines : List Line) → LinesHaveNames names lines → map (numbered_line names) (map (named_line names) lines) ≡ lines
   lines-same [] h = refl
   lines-same (l ∷ lines) h =
-      ap₂ (λ x xs. x ∷ xs) (ap₂ (λ (b : List Literal) (r : RuleUse). record { branch = b; rule = r; children = l.children }) (branch-same l.branch h.0.branch_named) (rule-same l.rule h.0.rule_named)) (lines-same lines h.1)
+      ap₂ (λ x xs. x ∷ xs) (ap₂ (λ (b : List Literal) (r : PlainRule). record { branch = b; rule = r; children = l.children }) (branch-same l.branch h.0.branch_named) (rule-same l.rule h.0.rule_named)) (lines-same lines h.1)
 
   -- the predicate of a row tells its type
   row_type : (scope : Scope) (a : SimpleType) (t : Lambda) → IsCanonical scope [] (predicate a) t → binder_of t ≡ a

@@ -14,8 +14,8 @@ use Rattle.tableau_calculus.specs.Literals as plain
 use Rattle.tableau_calculus.specs.Literals.{Literal, IsBranch}
 use Rattle.tableau_calculus.specs.Witnesses.{Row, with_rows, IsTableAfter}
 use Rattle.tableau_calculus.specs.Accepted.{IsTypedUse, AreRightLines, IsAccepted}
-use Rattle.tableau_calculus.specs.declared.refutation.RuleUse.{RuleUse}
-use Rattle.tableau_calculus.specs.declared.refutation.RuleUse.TheVariants as rule
+use Rattle.tableau_calculus.specs.Rules.{PlainRule}
+use Rattle.tableau_calculus.specs.declared.rule_use.RuleUse.TheVariants.{AtOne, AtTwo, AllPos, WithPredicate, Cut}
 use Rattle.tableau_calculus.specs.declared.refutation.Line.{Line}
 use Rattle.tableau_calculus.specs.declared.refutation.Refutation.{Refutation}
 use Rattle.refute_print.specs.Letters.{is_printable_name}
@@ -217,24 +217,12 @@ module _ (names : Names) (words : AreWords names) (scope : Scope) (all_named : N
   branch_written [] h small = tt
   branch_written (l ∷ ls) h small = (literal_written l h.0 small.0, branch_written ls h.1 small.1)
 
-  rule_written : (r : RuleUse) → IsTypedUse scope r → IsSmallRule r → IsRule (named_rule names r)
-  rule_written (rule.False i) h small = small
-  rule_written (rule.Close i j) h small = small
-  rule_written (rule.Refl i) h small = small
-  rule_written (rule.ImpPos i) h small = small
-  rule_written (rule.ImpNeg i) h small = small
-  rule_written (rule.BoolPos i) h small = small
-  rule_written (rule.BoolNeg i) h small = small
-  rule_written (rule.FunPos i) h small = small
-  rule_written (rule.FunNeg i) h small = small
-  rule_written (rule.AllPos i u) h small = (small.0, term_written h.0 u h.1 small.1)
-  rule_written (rule.AllNeg i) h small = small
-  rule_written (rule.Mat i j) h small = small
-  rule_written (rule.Dec i) h small = small
-  rule_written (rule.Con i j) h small = small
-  rule_written (rule.Cho f) h small = term_written (predicate h.0) f h.1 small
-  rule_written (rule.Des f) h small = term_written (predicate h.0) f h.1 small
-  rule_written (rule.Cut l) h small = literal_written l h small
+  rule_written : (r : PlainRule) → IsTypedUse scope r → IsSmallRule r → IsRule (named_rule names r)
+  rule_written (AtOne k i) h small = small
+  rule_written (AtTwo k i j) h small = small
+  rule_written (AllPos i u) h small = (small.0, term_written h.0 u h.1 small.1)
+  rule_written (WithPredicate k f) h small = term_written (predicate h.0) f h.1 small
+  rule_written (Cut l) h small = literal_written l h small
 
   lines_written : (rows : List Row) (earlier lines : List Line) → AreRightLines scope rows earlier lines → AllByRecursion IsSmallLine lines → AllByRecursion IsLine (map (named_line names) lines)
   lines_written rows earlier [] h small = tt

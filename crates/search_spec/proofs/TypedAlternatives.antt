@@ -9,8 +9,7 @@ use Rattle.stt_core.proofs.TypeLaws.{constant_declared}
 use Rattle.normal_forms.specs.Normal.{eta, apply}
 use Rattle.tableau_calculus.specs.Literals.{Literal, opposite, as_literal, IsLiteral, IsBranch}
 use Rattle.tableau_calculus.specs.Witnesses.{Row}
-use Rattle.tableau_calculus.specs.Rules.{Rule, false_rule, close_rule, refl_rule, imp_pos_rule, imp_neg_rule, bool_pos_rule, bool_neg_rule, fun_pos_rule, fun_neg_rule, all_pos_rule, all_neg_rule, mat_rule, dec_rule, con_rule, cho_rule, des_rule, cut_rule, agreement, nowhere, chosen, at_most_once, described, differ_each}
-use Rattle.tableau_calculus.specs.declared.refutation.RuleUse.{RuleUse}
+use Rattle.tableau_calculus.specs.Rules.{PlainRule, Rule, false_rule, close_rule, refl_rule, imp_pos_rule, imp_neg_rule, bool_pos_rule, bool_neg_rule, fun_pos_rule, fun_neg_rule, all_pos_rule, all_neg_rule, mat_rule, dec_rule, con_rule, cho_rule, des_rule, cut_rule, agreement, nowhere, chosen, at_most_once, described, differ_each}
 use Rattle.tableau_calculus.proofs.LiteralLaws.{imp_canonical, as_literal-is_literal, opposite-is_literal}
 use Rattle.tableau_calculus.proofs.EquationLaws.{eq_canonical, differ-is_literal}
 use Rattle.tableau_calculus.proofs.FunctionLaws.{every_canonical, canonical-agreement, canonical-nowhere, canonical-chosen, canonical-at_most_once, canonical-described, canonical-applied}
@@ -33,7 +32,7 @@ module _ (scope : Scope) where
       let p = and_parts _ _ d in
       ((differ-is_literal scope c s t (record { declared = p.0; left = hs.0; right = ht.0 }), tt), differ_typed e b ss ts p.1 hs.1 ht.1)
 
-  pub alternatives_typed : IsScope scope → (rows : List Row) → scope.witnesses ≡ map (λ r. r.type) rows → (rule : RuleUse) (principals : List Literal) (alternatives : List (List Literal)) → Rule scope rows rule principals alternatives → IsBranch scope principals → Each (IsBranch scope) alternatives
+  pub alternatives_typed : IsScope scope → (rows : List Row) → scope.witnesses ≡ map (λ r. r.type) rows → (rule : PlainRule) (principals : List Literal) (alternatives : List (List Literal)) → Rule scope rows rule principals alternatives → IsBranch scope principals → Each (IsBranch scope) alternatives
   alternatives_typed over rows types _ _ _ (false_rule i) typed = tt
   alternatives_typed over rows types _ _ _ (close_rule i j l) typed = tt
   alternatives_typed over rows types _ _ _ (refl_rule i a s) typed = tt

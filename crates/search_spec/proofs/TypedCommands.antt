@@ -8,7 +8,9 @@ use Rattle.stt_core.specs.Canonical.{IsCanonical}
 use Rattle.tableau_calculus.specs.Literals.{Literal, IsLiteral, IsBranch}
 use Rattle.tableau_calculus.specs.Witnesses.{with_rows}
 use Rattle.tableau_calculus.specs.Rules.{all_pos_rule, mat_rule, con_rule, cho_rule, des_rule, Alternatives, all_pos, differ, con, cho, des}
-use Rattle.tableau_calculus.specs.declared.refutation.RuleUse.TheVariants.{AllPos, Mat, Con, Cho, Des}
+use Rattle.tableau_calculus.specs.declared.rule_use.RuleUse.TheVariants.{AtTwo, AllPos, WithPredicate}
+use Rattle.tableau_calculus.specs.declared.rule_use.TwoPlaces.TheVariants.{Mat, Con}
+use Rattle.tableau_calculus.specs.declared.rule_use.OfPredicate.TheVariants.{Cho, Des}
 use Rattle.search_spec.specs.Each.{Each}
 use Rattle.search_spec.specs.Shallow.{is_shallow, is_shallow_literal}
 use Rattle.search_spec.specs.Spine.{head_of, arguments}
@@ -64,7 +66,7 @@ module _ (setting : Setting) (over : IsScope setting.scope) (s : State) (state :
       let P : Lambda → Type 0 = λ u. IsCanonical here [] formula u in
       let f = head_function here (constant c) h.s h.ss formula (subst P lits h.positive.formula) in
       let L : Literal → Type 0 = λ x. IsLiteral here x in
-      let typed = alternatives_typed here good s.rows refl (Mat 0 1) _ _ (mat_rule 0 1 c (arrow f.0 f.1) h.s h.t h.ss h.ts h.compared f.2) (subst L h.is_positive h.positive, (subst L h.is_negative h.negative, tt)) in
+      let typed = alternatives_typed here good s.rows refl (AtTwo Mat 0 1) _ _ (mat_rule 0 1 c (arrow f.0 f.1) h.s h.t h.ss h.ts h.compared f.2) (subst L h.is_positive h.positive, (subst L h.is_negative h.negative, tt)) in
       let same = spines_differ setting s.rows good l.atom m.atom c (arrow f.0 f.1) h.s h.ss h.t h.ts
       (ap head_of lits ∙ head_of-applied (constant c) (h.s ∷ h.ss))
       (ap arguments lits ∙ arguments-applied (constant c) (h.s ∷ h.ss))
@@ -78,7 +80,7 @@ module _ (setting : Setting) (over : IsScope setting.scope) (s : State) (state :
       let P : Lambda → Type 0 = λ x. IsTypedStateWith setting s.rows (with_confrontation setting l m x m.atom s) in
       let Q : Lambda → Type 0 = λ y. IsTypedStateWith setting s.rows (with_confrontation setting l m (eq b h.s h.t) y s) in
       let L : Literal → Type 0 = λ x. IsLiteral here x in
-      let typed = alternatives_typed here good s.rows refl (Con 0 1) _ _ (con_rule 0 1 h.n h.s h.t h.u h.v) (subst L h.is_positive h.positive, (subst L h.is_negative h.negative, tt)) in
+      let typed = alternatives_typed here good s.rows refl (AtTwo Con 0 1) _ _ (con_rule 0 1 h.n h.s h.t h.u h.v) (subst L h.is_positive h.positive, (subst L h.is_negative h.negative, tt)) in
       subst P (sym (ap (λ x. x.atom) h.is_positive)) (subst Q (sym (ap (λ x. x.atom) h.is_negative)) (with_instance-typed setting s.rows (l ∷ m ∷ []) (con b h.s h.t h.u h.v) s typed state.typed))
 
   inst-typed : (l : Literal) (u : Lambda) → Instantiates here l u → IsTypedStateWith setting s.rows (with_instantiation setting l l.atom u s)
@@ -95,8 +97,8 @@ module _ (setting : Setting) (over : IsScope setting.scope) (s : State) (state :
   carried_out-typed (mate l m) h = whole _ (mate-typed l m h)
   carried_out-typed (confront l m) h = whole _ (confront-typed l m h)
   carried_out-typed (inst l u) h = whole _ (inst-typed l u h)
-  carried_out-typed (choose a f) h = whole _ (with_instance-typed setting s.rows [] (cho a f) s (alternatives_typed here good s.rows refl (Cho f) _ _ (cho_rule a f h) tt) state.typed)
-  carried_out-typed (describe a f) h = whole _ (with_instance-typed setting s.rows [] (des a f) s (alternatives_typed here good s.rows refl (Des f) _ _ (des_rule a f h) tt) state.typed)
+  carried_out-typed (choose a f) h = whole _ (with_instance-typed setting s.rows [] (cho a f) s (alternatives_typed here good s.rows refl (WithPredicate Cho f) _ _ (cho_rule a f h) tt) state.typed)
+  carried_out-typed (describe a f) h = whole _ (with_instance-typed setting s.rows [] (des a f) s (alternatives_typed here good s.rows refl (WithPredicate Des f) _ _ (des_rule a f h) tt) state.typed)
   carried_out-typed (grow p t) h = whole _ (grow-typed setting s.rows good p t s h state.typed)
 
 module _ (setting : Setting) (over : IsScope setting.scope) where

@@ -10,7 +10,8 @@ use Rattle.stt_core.proofs.TypeLaws.{same_type-true}
 use Rattle.tableau_calculus.specs.Literals.{Literal, plus, minus, IsLiteral, IsBranch}
 use Rattle.tableau_calculus.specs.Witnesses.{Row, with_rows}
 use Rattle.tableau_calculus.specs.Rules.{differ_each, bool_pos_rule, bool_neg_rule, fun_pos_rule, fun_neg_rule, dec_rule, Alternatives, bool_pos, bool_neg, fun_pos, fun_neg, differ}
-use Rattle.tableau_calculus.specs.declared.refutation.RuleUse.TheVariants.{BoolPos, BoolNeg, FunPos, FunNeg, Dec}
+use Rattle.tableau_calculus.specs.declared.rule_use.RuleUse.TheVariants.{AtOne}
+use Rattle.tableau_calculus.specs.declared.rule_use.OnePlace.TheVariants.{BoolPos, BoolNeg, FunPos, FunNeg, Dec}
 use Rattle.tableau_calculus.proofs.EquationLaws.{eq_canonical}
 use Rattle.tableau_calculus.proofs.FunctionLaws.{every_canonical}
 use Rattle.search_spec.specs.Each.{Each}
@@ -89,7 +90,7 @@ module _ (setting : Setting) (rows : List Row) (good : IsScope (with_rows settin
           let k = subst (λ v. L (applied (constant sp.head) (sp.first ∷ sp.more)) v) t_is (subst (λ u. L u t) sp.is h) in
           let D : Alternatives → Type 0 = λ as'. Each (IsBranch over) as' in
           subst D (sym (spines_differ s t sp.head (arrow f.0 f.1) sp.first sp.more o.0 o.1 sp.head_is sp.arguments_are o.2 f.2))
-          (alternatives_typed over good rows refl (Dec 0) _ _ (dec_rule 0 n sp.head (arrow f.0 f.1) sp.first o.0 sp.more o.1 sp.compared f.2) (k, tt))
+          (alternatives_typed over good rows refl (AtOne Dec 0) _ _ (dec_rule 0 n sp.head (arrow f.0 f.1) sp.first o.0 sp.more o.1 sp.compared f.2) (k, tt))
 
       by_test : (x : Bool) → (is_spine s && same_head s t) ≡ x → Good (if x then with_instance setting.mode (minus (eq b s t) ∷ []) (alternatives st.rows) st else st)
       by_test false e = g
@@ -98,14 +99,14 @@ module _ (setting : Setting) (rows : List Row) (good : IsScope (with_rows settin
           with_instance-typed setting rows (minus (eq b s t) ∷ []) (alternatives st.rows) st (subst A (sym g.are_rows) (typed e)) g
 
   pub equated-typed : (a : SimpleType) (sign : Bool) (s t : Lambda) (st : State) → IsLiteral over (record { positive = sign; atom = eq a s t }) → Good st → Good (with_equation setting a sign s t st)
-  equated-typed (base zero) true s t st h g = with_instance-typed setting rows (plus (eq formula s t) ∷ []) (bool_pos s t) st (alternatives_typed over good rows refl (BoolPos 0) _ _ (bool_pos_rule 0 s t) (h, tt)) g
-  equated-typed (base zero) false s t st h g = with_instance-typed setting rows (minus (eq formula s t) ∷ []) (bool_neg s t) st (alternatives_typed over good rows refl (BoolNeg 0) _ _ (bool_neg_rule 0 s t) (h, tt)) g
-  equated-typed (arrow a b) true s t st h g = with_instance-typed setting rows (plus (eq (arrow a b) s t) ∷ []) (fun_pos a b s t) st (alternatives_typed over good rows refl (FunPos 0) _ _ (fun_pos_rule 0 a b s t) (h, tt)) g
+  equated-typed (base zero) true s t st h g = with_instance-typed setting rows (plus (eq formula s t) ∷ []) (bool_pos s t) st (alternatives_typed over good rows refl (AtOne BoolPos 0) _ _ (bool_pos_rule 0 s t) (h, tt)) g
+  equated-typed (base zero) false s t st h g = with_instance-typed setting rows (minus (eq formula s t) ∷ []) (bool_neg s t) st (alternatives_typed over good rows refl (AtOne BoolNeg 0) _ _ (bool_neg_rule 0 s t) (h, tt)) g
+  equated-typed (arrow a b) true s t st h g = with_instance-typed setting rows (plus (eq (arrow a b) s t) ∷ []) (fun_pos a b s t) st (alternatives_typed over good rows refl (AtOne FunPos 0) _ _ (fun_pos_rule 0 a b s t) (h, tt)) g
   equated-typed (arrow a b) false s t st h g =
       let c = arrow a b in
       let sides = eq_canonical over c s t h.formula in
       let us = offered_sides setting.mode s t in
-      with_instance-typed setting rows (minus (eq c s t) ∷ []) (fun_neg a b s t) (with_terms setting.mode c us st) (alternatives_typed over good rows refl (FunNeg 0) _ _ (fun_neg_rule 0 a b s t) (h, tt))
+      with_instance-typed setting rows (minus (eq c s t) ∷ []) (fun_neg a b s t) (with_terms setting.mode c us st) (alternatives_typed over good rows refl (AtOne FunNeg 0) _ _ (fun_neg_rule 0 a b s t) (h, tt))
       (with_terms-typed setting rows c us st (pick_good (Each (IsCanonical over [] c)) (offers_terms setting.mode) (s ∷ t ∷ []) [] (sides.left, (sides.right, tt)) tt) g)
   equated-typed (base (suc n)) true s t st h g = confronted-typed n true s t st h g
   equated-typed (base (suc n)) false s t st h g =

@@ -13,7 +13,8 @@ use Rattle.stt_core.proofs.TypeLaws.{constant_declared}
 use Rattle.tableau_calculus.specs.Literals.{Literal, plus, minus, IsLiteral, IsBranch}
 use Rattle.tableau_calculus.specs.Witnesses.{Row, with_rows, IsTable}
 use Rattle.tableau_calculus.specs.Rules.{imp_pos_rule, imp_neg_rule, all_neg_rule, imp_pos, imp_neg, all_neg}
-use Rattle.tableau_calculus.specs.declared.refutation.RuleUse.TheVariants.{ImpPos, ImpNeg, AllNeg}
+use Rattle.tableau_calculus.specs.declared.rule_use.RuleUse.TheVariants.{AtOne}
+use Rattle.tableau_calculus.specs.declared.rule_use.OnePlace.TheVariants.{ImpPos, ImpNeg, AllNeg}
 use Rattle.tableau_calculus.proofs.FunctionLaws.{every_canonical}
 use Rattle.search_spec.specs.Each.{Each}
 use Rattle.search_spec.specs.Partial.{Hole, first_hole}
@@ -57,7 +58,7 @@ module _ (setting : Setting) (over : IsScope setting.scope) where
     known_witness a f h e =
         let r : Row = record { type = a; predicate = f } in
         with_instance-typed setting s.rows (minus (every a f) ∷ []) (all_neg a f (witness_of s.rows r)) s
-        (alternatives_typed (scope_in setting s) good s.rows refl (AllNeg 0) _ _ (all_neg_rule 0 (position_or_len (same_row r) s.rows) a f (row_at s.rows r e)) (h, tt)) state.typed
+        (alternatives_typed (scope_in setting s) good s.rows refl (AtOne AllNeg 0) _ _ (all_neg_rule 0 (position_or_len (same_row r) s.rows) a f (row_at s.rows r e)) (h, tt)) state.typed
 
   -- the partial terms that a new witness fits
   growths : (rows : List Row) (k : ℕ) (r : Row) → slice_get rows k ≡ Some r → IsScope (with_rows setting.scope rows) → (s : State) → IsTypedStateWith setting rows s → Each (IsTypedCommand (with_rows setting.scope rows)) (map (λ p. grow p (constant (witness k))) (filter (has_hole_of (target r.type)) s.parked))
@@ -91,7 +92,7 @@ module _ (setting : Setting) (over : IsScope setting.scope) where
         let wide = record s { rows = more } in
         let added = with_instance setting.mode (minus (every a f) ∷ []) (all_neg a f (constant (witness k))) wide in
         let g = with_instance-typed setting more (minus (every a f) ∷ []) (all_neg a f (constant (witness k))) wide
-        (alternatives_typed (with_rows setting.scope more) good more refl (AllNeg 0) _ _ (all_neg_rule 0 k a f at) (h', tt))
+        (alternatives_typed (with_rows setting.scope more) good more refl (AtOne AllNeg 0) _ _ (all_neg_rule 0 k a f at) (h', tt))
         (state_wider setting s.rows (r ∷ []) s state.typed) in
         let w = constant (witness k) in
         let done = with_new_witness setting a w added in
@@ -122,9 +123,9 @@ module _ (setting : Setting) (over : IsScope setting.scope) where
   worked-typed : (sign : Bool) (t : Lambda) (s : State) → IsTypedState setting s → IsLiteral (scope_in setting s) (record { positive = sign; atom = t }) → Worked setting (record { positive = sign; atom = t }) (with_rules setting sign t s)
   worked-typed true (constant falsity) s state h = same_rows s state (plus (constant falsity)) _ h (with_instance-typed setting s.rows (plus (constant falsity) ∷ []) [] s tt state.typed)
   worked-typed true (app (app (constant implication) u) v) s state h =
-      same_rows s state (plus (imp u v)) _ h (with_instance-typed setting s.rows (plus (imp u v) ∷ []) (imp_pos u v) s (alternatives_typed (scope_in setting s) (good s state) s.rows refl (ImpPos 0) _ _ (imp_pos_rule 0 u v) (h, tt)) state.typed)
+      same_rows s state (plus (imp u v)) _ h (with_instance-typed setting s.rows (plus (imp u v) ∷ []) (imp_pos u v) s (alternatives_typed (scope_in setting s) (good s state) s.rows refl (AtOne ImpPos 0) _ _ (imp_pos_rule 0 u v) (h, tt)) state.typed)
   worked-typed false (app (app (constant implication) u) v) s state h =
-      same_rows s state (minus (imp u v)) _ h (with_instance-typed setting s.rows (minus (imp u v) ∷ []) (imp_neg u v) s (alternatives_typed (scope_in setting s) (good s state) s.rows refl (ImpNeg 0) _ _ (imp_neg_rule 0 u v) (h, tt)) state.typed)
+      same_rows s state (minus (imp u v)) _ h (with_instance-typed setting s.rows (minus (imp u v) ∷ []) (imp_neg u v) s (alternatives_typed (scope_in setting s) (good s state) s.rows refl (AtOne ImpNeg 0) _ _ (imp_neg_rule 0 u v) (h, tt)) state.typed)
   worked-typed true (app (app (constant (equality a)) u) v) s state h = same_rows s state (plus (eq a u v)) _ h (equated-typed setting s.rows (good s state) a true u v s h state.typed)
   worked-typed false (app (app (constant (equality a)) u) v) s state h =
       same_rows s state (minus (eq a u v)) _ h

@@ -3,8 +3,8 @@ use Rattle.std.proofs.Common.{◌≡◌, inl, inr, ◌&&◌, not, ℕ, zero, suc
 use Rattle.std.specs.List.{AllByRecursion}
 use Rattle.std.proofs.lemmas.Bool.{false≢true, or_cases}
 use Rattle.tableau_calculus.specs.Witnesses.{Row}
-use Rattle.tableau_calculus.specs.declared.refutation.RuleUse.{RuleUse}
-use Rattle.tableau_calculus.specs.declared.refutation.RuleUse.TheVariants as rule
+use Rattle.tableau_calculus.specs.Rules.{PlainRule}
+use Rattle.tableau_calculus.specs.declared.rule_use.RuleUse.TheVariants.{AtOne, AtTwo, AllPos}
 use Rattle.sat_base.specs.declared.literal.Var.{Var}
 use Rattle.sat_base.specs.declared.literal.SatLit.{SatLit}
 use Rattle.sat_base.specs.Literal.{positive, negative, negated, same_literal, holds}
@@ -23,21 +23,10 @@ use Rattle.rebuild_spec.proofs.ReachedLaws.{walked_all}
 use Rattle.refute_print.specs.Sizes.{IsSmallTerm, AreSmallLiterals}
 use Rattle.small_rebuilt.specs.Small.{TakesSmall, IsSmallNumber, InputHasSmallTerms, HasSmallParts, RebuiltTermsAreSmall}
 
-pub placed_takes : (r : RuleUse) (is : List ℕ) → TakesSmall r → TakesSmall (rule_at_places r is)
-placed_takes (rule.False k) (i ∷ is) h = tt
-placed_takes (rule.Close k m) (i ∷ j ∷ is) h = tt
-placed_takes (rule.Refl k) (i ∷ is) h = tt
-placed_takes (rule.ImpPos k) (i ∷ is) h = tt
-placed_takes (rule.ImpNeg k) (i ∷ is) h = tt
-placed_takes (rule.BoolPos k) (i ∷ is) h = tt
-placed_takes (rule.BoolNeg k) (i ∷ is) h = tt
-placed_takes (rule.FunPos k) (i ∷ is) h = tt
-placed_takes (rule.FunNeg k) (i ∷ is) h = tt
-placed_takes (rule.AllPos k u) (i ∷ is) h = h
-placed_takes (rule.AllNeg k) (i ∷ is) h = tt
-placed_takes (rule.Mat k m) (i ∷ j ∷ is) h = tt
-placed_takes (rule.Dec k) (i ∷ is) h = tt
-placed_takes (rule.Con k m) (i ∷ j ∷ is) h = tt
+pub placed_takes : (r : PlainRule) (is : List ℕ) → TakesSmall r → TakesSmall (rule_at_places r is)
+placed_takes (AtOne kind k) (i ∷ is) h = tt
+placed_takes (AtTwo kind k m) (i ∷ j ∷ is) h = tt
+placed_takes (AllPos k u) (i ∷ is) h = h
 placed_takes r is h = h
 
 module _ (input : Input) where

@@ -1,4 +1,5 @@
 pub use Rattle.literal_map.specs.Atoms
+pub use Rattle.literal_map.specs.Numbers
 pub use Rattle.rebuild_spec.specs.Input
 pub use Rattle.rebuild_spec.specs.Rebuilt
 pub use Rattle.refute_print.specs.Limits
@@ -6,6 +7,8 @@ pub use Rattle.refute_print.specs.Sizes
 pub use Rattle.search_spec.specs.Each
 pub use Rattle.search_spec.specs.Numbered
 pub use Rattle.stt_core.specs.Lambda
+pub use Rattle.tableau_calculus.specs.RuleUses
+pub use Rattle.tableau_calculus.specs.Rules
 pub use Rattle.tableau_calculus.specs.Witnesses
 pub use Rattle.tableau_rules.specs.Uses
 pub use Rattle.term_bank.specs.Terms

@@ -1,11 +1,11 @@
 -- Small terms in a refutation that is rebuilt.
 use Rattle.std.specs.Prelude.{◌≡◌, ◌<◌, ◌≤◌, ◌^◌, ℕ, List, length, Some, slice_get}
 use Rattle.std.specs.List.{AllByRecursion}
-use Rattle.std.specs.Option.{ForSome}
 use Rattle.stt_core.specs.Lambda.{Lambda}
 use Rattle.tableau_calculus.specs.Witnesses.{Row}
-use Rattle.tableau_calculus.specs.declared.refutation.RuleUse.{RuleUse}
-use Rattle.tableau_calculus.specs.declared.refutation.RuleUse.TheVariants as rule
+use Rattle.tableau_calculus.specs.RuleUses.{EachPart}
+use Rattle.tableau_calculus.specs.Rules.{PlainRule}
+use Rattle.tableau_calculus.specs.declared.rule_use.RuleUse.TheVariants.{AtOne, AtTwo, AllPos, WithPredicate, Cut}
 use Rattle.tableau_calculus.specs.declared.refutation.Line.{Line}
 use Rattle.tableau_calculus.specs.declared.refutation.Refutation.{Refutation}
 use Rattle.sat_base.specs.declared.literal.SatLit.{SatLit}
@@ -15,31 +15,14 @@ use Rattle.rebuild_spec.specs.Input.{Sourced, start_unit, clause_by, Input}
 use Rattle.rebuild_spec.specs.Rebuilt.{IsRebuilt}
 use Rattle.term_bank.specs.Terms.{term_at}
 use Rattle.literal_map.specs.Atoms.{bank_literal as literal_of}
-use Rattle.literal_map.specs.declared.instance.BankUse.{BankUse}
-use Rattle.literal_map.specs.declared.instance.RuleKind.TheVariants as kind
+use Rattle.literal_map.specs.Numbers.{UseByNumbers}
 use Rattle.tableau_rules.specs.Uses.{use_of}
 use Rattle.refute_print.specs.Limits.{IsChild}
 use Rattle.refute_print.specs.Sizes.{IsSmallTerm, AreSmallLiterals, IsSmall}
 
--- the term that a rule takes is small
-abbrev pub TakesSmall : RuleUse → Type 0
-TakesSmall (rule.False i) = Unit {0}
-TakesSmall (rule.Close i j) = Unit {0}
-TakesSmall (rule.Refl i) = Unit {0}
-TakesSmall (rule.ImpPos i) = Unit {0}
-TakesSmall (rule.ImpNeg i) = Unit {0}
-TakesSmall (rule.BoolPos i) = Unit {0}
-TakesSmall (rule.BoolNeg i) = Unit {0}
-TakesSmall (rule.FunPos i) = Unit {0}
-TakesSmall (rule.FunNeg i) = Unit {0}
-TakesSmall (rule.AllPos i u) = IsSmallTerm u
-TakesSmall (rule.AllNeg i) = Unit {0}
-TakesSmall (rule.Mat i j) = Unit {0}
-TakesSmall (rule.Dec i) = Unit {0}
-TakesSmall (rule.Con i j) = Unit {0}
-TakesSmall (rule.Cho f) = IsSmallTerm f
-TakesSmall (rule.Des f) = IsSmallTerm f
-TakesSmall (rule.Cut l) = IsSmallTerm l.atom
+-- the term or the literal that a rule takes is small
+abbrev pub TakesSmall : PlainRule → Type 0
+TakesSmall rule = EachPart IsSmallTerm (λ l. IsSmallTerm l.atom) rule
 
 -- a numbered literal's atom is small
 abbrev pub IsSmallNumber : Input → SatLit → Type 0
@@ -67,24 +50,12 @@ abbrev pub RebuiltTermsAreSmall : Type 0
 RebuiltTermsAreSmall = (input : Input) (refutation : Refutation) → InputHasSmallTerms input → IsRebuilt input refutation → AreTermsSmall refutation
 
 -- the places that a rule is used at are numbers of the machine
-abbrev pub HasPlaces : RuleUse → Type 0
-HasPlaces (rule.False i) = i < 2 ^ 64
-HasPlaces (rule.Close i j) = (i < 2 ^ 64) × (j < 2 ^ 64)
-HasPlaces (rule.Refl i) = i < 2 ^ 64
-HasPlaces (rule.ImpPos i) = i < 2 ^ 64
-HasPlaces (rule.ImpNeg i) = i < 2 ^ 64
-HasPlaces (rule.BoolPos i) = i < 2 ^ 64
-HasPlaces (rule.BoolNeg i) = i < 2 ^ 64
-HasPlaces (rule.FunPos i) = i < 2 ^ 64
-HasPlaces (rule.FunNeg i) = i < 2 ^ 64
-HasPlaces (rule.AllPos i u) = i < 2 ^ 64
-HasPlaces (rule.AllNeg i) = i < 2 ^ 64
-HasPlaces (rule.Mat i j) = (i < 2 ^ 64) × (j < 2 ^ 64)
-HasPlaces (rule.Dec i) = i < 2 ^ 64
-HasPlaces (rule.Con i j) = (i < 2 ^ 64) × (j < 2 ^ 64)
-HasPlaces (rule.Cho f) = Unit {0}
-HasPlaces (rule.Des f) = Unit {0}
-HasPlaces (rule.Cut l) = Unit {0}
+abbrev pub HasPlaces : PlainRule → Type 0
+HasPlaces (AtOne kind i) = i < 2 ^ 64
+HasPlaces (AtTwo kind i j) = (i < 2 ^ 64) × (j < 2 ^ 64)
+HasPlaces (AllPos i u) = i < 2 ^ 64
+HasPlaces (WithPredicate kind f) = Unit {0}
+HasPlaces (Cut l) = Unit {0}
 
 -- the numbers in a line are numbers of the machine
 pub record HasNumbers (line : Line) : Type 0 where
@@ -100,9 +71,9 @@ pub record AreNumbersInRange (r : Refutation) : Type 0 where
 abbrev pub SmallInRange : Type 0
 SmallInRange = (refutation : Refutation) → AreNumbersInRange refutation → AreTermsSmall refutation → IsSmall refutation
 
--- a rule with what it takes by numbers takes a small term where that at the number is one, and the literal of a cut is
+-- a rule takes a small term or literal where it takes by number what stands for a small one
 abbrev pub UsesTakeSmall : Type 0
 UsesTakeSmall =
-    (terms : List Lambda) (atoms : List ℕ) (by : BankUse) (rule : RuleUse) → use_of terms atoms by ≡ Some rule
-    → (by.kind ≡ kind.Cut → ForSome by.first (λ l. IsSmallTerm (literal_of terms atoms l).atom))
-    → ForSome by.term (λ u. IsSmallTerm (term_at terms u)) → TakesSmall rule
+    (terms : List Lambda) (atoms : List ℕ) (by : UseByNumbers)
+    → EachPart (λ u. IsSmallTerm (term_at terms u)) (λ l. IsSmallTerm (literal_of terms atoms l).atom) by
+    → TakesSmall (use_of terms atoms by)

@@ -13,7 +13,9 @@ use Rattle.stt_tableau.specs.Internal.Parts.{IsSpine}
 use Rattle.tableau_calculus.specs.Checks.{StandsAt, FindsInstance}
 use Rattle.stt_tableau.specs.Internal.Instances.{IsSpineAt, ArgumentsDiffer, SpinesDiffer}
 use Rattle.stt_tableau.specs.declared.decompose.Spine.{Spine}
-use Rattle.tableau_calculus.specs.declared.refutation.RuleUse.TheVariants.{Mat, Dec}
+use Rattle.tableau_calculus.specs.declared.rule_use.RuleUse.TheVariants.{AtOne, AtTwo}
+use Rattle.tableau_calculus.specs.declared.rule_use.OnePlace.TheVariants.{Dec}
+use Rattle.tableau_calculus.specs.declared.rule_use.TwoPlaces.TheVariants.{Mat}
 use Rattle.tableau_calculus.proofs.InstanceLaws.{fits}
 
 drop_all : (xs : List Lambda) (i : ℕ) → length xs ≤ i → drop i xs ≡ []
@@ -62,47 +64,47 @@ same_atom : (branch : List Literal) (i : ℕ) (sign : Bool) (s t : Lambda) → S
 same_atom branch i sign s t h k = ap (λ x. x.atom) (same_literal_at branch i (record { positive = sign; atom = s }) (record { positive = sign; atom = t }) h k)
 
 module _ (scope : Scope) (rows : List Row) (branch : List Literal) where
-  pub mat_found : (i j : ℕ) (left right : Option Spine) (o : Option (List (List Literal))) → IsSpineAt branch i true left → IsSpineAt branch j false right → SpinesDiffer scope left right o → FindsInstance scope rows branch (Mat i j) o
+  pub mat_found : (i j : ℕ) (left right : Option Spine) (o : Option (List (List Literal))) → IsSpineAt branch i true left → IsSpineAt branch j false right → SpinesDiffer scope left right o → FindsInstance scope rows branch (AtTwo Mat i j) o
   mat_found i j (Some p) (Some q) (Some as') (c, s, ss, dec, head, args, at) (d, t, ts, dec', head', args', at') (a, type, same, is) =
       let e = same_constant c d (the_head p.head.now) (the_head q.head.now) head head' same in
       let all : as' ≡ differ_each a (s ∷ ss) (t ∷ ts) = is ∙ ap₂ (differ_each a) args args' in
-      subst (IsInstance scope rows branch (Mat i j)) (sym all) (record {
+      subst (IsInstance scope rows branch (AtTwo Mat i j)) (sym all) (record {
         principals = plus (applied (constant c) (s ∷ ss)) ∷ minus (applied (constant c) (t ∷ ts)) ∷ [];
         at_places = (at, (at' ∙ ap (λ x. Some (minus (applied (constant x) (t ∷ ts)))) (sym e), tt));
         fits = mat_rule i j c a s t ss ts dec (sym (ap (type_of scope []) head) ∙ type);
       })
   mat_found i j (Some p) (Some q) None (c, s, ss, dec, head, args, at) (d, t, ts, dec', head', args', at') none = λ alternatives h.
-      let f = fits scope rows (Mat i j) h.principals alternatives h.fits in
+      let f = fits scope rows (AtTwo Mat i j) h.principals alternatives h.fits in
       let places = subst (AreAt branch (i ∷ j ∷ [])) f.8 h.at_places in
       let left = same_spine_head c f.0 (s ∷ ss) (f.2 ∷ f.4) (same_atom branch i true (applied (constant c) (s ∷ ss)) (applied (constant f.0) (f.2 ∷ f.4)) at places.0) in
       let right = same_spine_head d f.0 (t ∷ ts) (f.3 ∷ f.5) (same_atom branch j false (applied (constant d) (t ∷ ts)) (applied (constant f.0) (f.3 ∷ f.5)) at' places.1.0) in
       none f.1 (ap (type_of scope []) (head ∙ left) ∙ f.7) (head ∙ left ∙ sym right ∙ sym head')
   mat_found i j None q None h k none = λ alternatives g.
-      let f = fits scope rows (Mat i j) g.principals alternatives g.fits in
+      let f = fits scope rows (AtTwo Mat i j) g.principals alternatives g.fits in
       let places = subst (AreAt branch (i ∷ j ∷ [])) f.8 g.at_places in
       h f.0 f.2 f.4 f.6 places.0
   mat_found i j (Some p) None None h k none = λ alternatives g.
-      let f = fits scope rows (Mat i j) g.principals alternatives g.fits in
+      let f = fits scope rows (AtTwo Mat i j) g.principals alternatives g.fits in
       let places = subst (AreAt branch (i ∷ j ∷ [])) f.8 g.at_places in
       k f.0 f.3 f.5 f.6 places.1.0
   mat_found i j None q (Some as') h k g = absurd g
   mat_found i j (Some p) None (Some as') h k g = absurd g
 
   -- the parts of an instance of decomposition
-  dec_parts : (i : ℕ) (b : SimpleType) (u v : Lambda) (as' : List (List Literal)) → StandsAt branch i false (eq b u v) → IsInstance scope rows branch (Dec i) as' → (c : Constant) × (a : SimpleType) × (s : Lambda) × (t : Lambda) × (ss : List Lambda) × (ts : List Lambda) × IsDecomposed c × (constant_type scope c ≡ Some a) × (u ≡ applied (constant c) (s ∷ ss)) × (v ≡ applied (constant c) (t ∷ ts))
+  dec_parts : (i : ℕ) (b : SimpleType) (u v : Lambda) (as' : List (List Literal)) → StandsAt branch i false (eq b u v) → IsInstance scope rows branch (AtOne Dec i) as' → (c : Constant) × (a : SimpleType) × (s : Lambda) × (t : Lambda) × (ss : List Lambda) × (ts : List Lambda) × IsDecomposed c × (constant_type scope c ≡ Some a) × (u ≡ applied (constant c) (s ∷ ss)) × (v ≡ applied (constant c) (t ∷ ts))
   dec_parts i b u v as' at g =
-      let f = fits scope rows (Dec i) g.principals as' g.fits in
+      let f = fits scope rows (AtOne Dec i) g.principals as' g.fits in
       let places = subst (AreAt branch (i ∷ [])) f.9 g.at_places in
       let e = same_atom branch i false (eq b u v) (eq (base (suc f.0)) (applied (constant f.1) (f.3 ∷ f.5)) (applied (constant f.1) (f.4 ∷ f.6))) at places.0 in
       let p : u ≡ applied (constant f.1) (f.3 ∷ f.5) = cc in
       let q : v ≡ applied (constant f.1) (f.4 ∷ f.6) = cc in
       (f.1, f.2, f.3, f.4, f.5, f.6, f.7, f.8, p, q)
 
-  pub dec_found : (i n : ℕ) (b : SimpleType) (u v : Lambda) (left right : Option Spine) (o : Option (List (List Literal))) → StandsAt branch i false (eq b u v) → b ≡ base (suc n) → IsSpine u left → IsSpine v right → SpinesDiffer scope left right o → FindsInstance scope rows branch (Dec i) o
+  pub dec_found : (i n : ℕ) (b : SimpleType) (u v : Lambda) (left right : Option Spine) (o : Option (List (List Literal))) → StandsAt branch i false (eq b u v) → b ≡ base (suc n) → IsSpine u left → IsSpine v right → SpinesDiffer scope left right o → FindsInstance scope rows branch (AtOne Dec i) o
   dec_found i n b u v (Some p) (Some q) (Some as') at is_base (c, s, ss, dec, head, args, is) (d, t, ts, dec', head', args', is') (a, type, same, all') =
       let e = same_constant c d (the_head p.head.now) (the_head q.head.now) head head' same in
       let all : as' ≡ differ_each a (s ∷ ss) (t ∷ ts) = all' ∙ ap₂ (differ_each a) args args' in
-      subst (IsInstance scope rows branch (Dec i)) (sym all) (record {
+      subst (IsInstance scope rows branch (AtOne Dec i)) (sym all) (record {
         principals = minus (eq (base (suc n)) (applied (constant c) (s ∷ ss)) (applied (constant c) (t ∷ ts))) ∷ [];
         at_places = (at ∙ ap (λ x. Some (minus (eq x u v))) is_base ∙ ap₂ (λ x y. Some (minus (eq (base (suc n)) x y))) is (is' ∙ ap (λ x. applied (constant x) (t ∷ ts)) (sym e)), tt);
         fits = dec_rule i n c a s t ss ts dec (sym (ap (type_of scope []) head) ∙ type);
@@ -122,9 +124,9 @@ module _ (scope : Scope) (rows : List Row) (branch : List Literal) where
   dec_found i n b u v (Some p) None (Some as') at is_base h k g = absurd g
 
   -- an equation at another type isn't decomposed
-  pub not_decomposed : (i : ℕ) (b : SimpleType) (u v : Lambda) → StandsAt branch i false (eq b u v) → (((n : ℕ) × (b ≡ base (suc n))) → ⊥) → FindsInstance scope rows branch (Dec i) None
+  pub not_decomposed : (i : ℕ) (b : SimpleType) (u v : Lambda) → StandsAt branch i false (eq b u v) → (((n : ℕ) × (b ≡ base (suc n))) → ⊥) → FindsInstance scope rows branch (AtOne Dec i) None
   not_decomposed i b u v at other = λ alternatives g.
-      let f = fits scope rows (Dec i) g.principals alternatives g.fits in
+      let f = fits scope rows (AtOne Dec i) g.principals alternatives g.fits in
       let places = subst (AreAt branch (i ∷ [])) f.9 g.at_places in
       let e = same_atom branch i false (eq b u v) (eq (base (suc f.0)) (applied (constant f.1) (f.3 ∷ f.5)) (applied (constant f.1) (f.4 ∷ f.6))) at places.0 in
       let p : b ≡ base (suc f.0) = cc in

@@ -9,7 +9,9 @@ ghost use Rattle.tableau_calculus.specs.Internal.Heads.{IsDecomposedHead};
 ghost use Rattle.stt_tableau.specs.Internal.Parts.{IsSpine};
 ghost use Rattle.tableau_calculus.specs.Checks.{FindsInstance};
 ghost use Rattle.stt_tableau.specs.Internal.Instances.{IsSpineAt, ArgumentsDiffer, SpinesDiffer};
-ghost use Rattle.tableau_calculus.specs.declared.refutation.RuleUse.TheVariants.{Mat, Dec};
+ghost use Rattle.tableau_calculus.specs.declared.rule_use.RuleUse.TheVariants.{AtOne, AtTwo};
+ghost use Rattle.tableau_calculus.specs.declared.rule_use.OnePlace.TheVariants.{Dec};
+ghost use Rattle.tableau_calculus.specs.declared.rule_use.TwoPlaces.TheVariants.{Mat};
 
 use crate::alternatives::{Alternatives, alone};
 use crate::equation::{differ, equation_at, is_plain_base};
@@ -156,7 +158,7 @@ pub fn mat_instance(
     i: usize,
     j: usize,
 ) -> Result<Option<Alternatives>, AllocError>
-    ensures { IfOk result (λ a. (rows : List Row) → FindsInstance (the_scope sig.now types.now) rows branch.now (Mat i j) a) }
+    ensures { IfOk result (λ a. (rows : List Row) → FindsInstance (the_scope sig.now types.now) rows branch.now (AtTwo Mat i j) a) }
 {
     let left = spine_at(branch, i, true);
     let right = spine_at(branch, j, false);
@@ -170,7 +172,7 @@ pub fn dec_instance(
     branch: &Lits,
     i: usize,
 ) -> Result<Option<Alternatives>, AllocError>
-    ensures { IfOk result (λ a. (rows : List Row) → FindsInstance (the_scope sig.now types.now) rows branch.now (Dec i) a) }
+    ensures { IfOk result (λ a. (rows : List Row) → FindsInstance (the_scope sig.now types.now) rows branch.now (AtOne Dec i) a) }
 {
     match equation_at(branch, i, false) {
         Some(equation) => {

@@ -13,7 +13,8 @@ ghost use Rattle.tableau_calculus.specs.Witnesses.{Row};
 ghost use Rattle.tableau_calculus.specs.Rules.{nowhere, at_outer, at_inner, at_most_once, described};
 ghost use Rattle.tableau_calculus.specs.Checks.{FindsInstance};
 ghost use Rattle.stt_tableau.specs.Internal.Instances.{IsFunctionFrom, IsPredicateOn};
-ghost use Rattle.tableau_calculus.specs.declared.refutation.RuleUse.TheVariants.{Des};
+ghost use Rattle.tableau_calculus.specs.declared.rule_use.RuleUse.TheVariants.{WithPredicate};
+ghost use Rattle.tableau_calculus.specs.declared.rule_use.OfPredicate.TheVariants.{Des};
 
 use crate::alternatives::{Alternatives, any_of_three};
 use crate::formula::literal_of;
@@ -131,7 +132,7 @@ pub fn des_instance(
     f: &Nf,
 ) -> Result<Option<Alternatives>, AllocError>
     requires { (a : SimpleType) × IsCanonical (the_scope sig.now types.now) [] (predicate a) f.now }
-    ensures { IfOk result (λ a. (rows : List Row) → FindsInstance (the_scope sig.now types.now) rows branch.now (Des f.now) a) }
+    ensures { IfOk result (λ a. (rows : List Row) → FindsInstance (the_scope sig.now types.now) rows branch.now (WithPredicate Des f.now) a) }
 {
     match type_of_closed(alloc, sig, types, f)? {
         Some(Ty::Arrow(a, _)) => Ok(Some(nowhere_repeated_or_described(alloc, &a, f)?)),

@@ -11,7 +11,9 @@ ghost use Rattle.tableau_calculus.specs.Internal.Heads.{equality_of};
 ghost use Rattle.stt_tableau.specs.Internal.Parts.{IsEquation};
 ghost use Rattle.tableau_calculus.specs.Checks.{FindsInstance};
 ghost use Rattle.stt_tableau.specs.Internal.Instances.{IsEquationAt};
-ghost use Rattle.tableau_calculus.specs.declared.refutation.RuleUse.TheVariants.{Refl, BoolPos, BoolNeg, Con};
+ghost use Rattle.tableau_calculus.specs.declared.rule_use.RuleUse.TheVariants.{AtOne, AtTwo};
+ghost use Rattle.tableau_calculus.specs.declared.rule_use.OnePlace.TheVariants.{Refl, BoolPos, BoolNeg};
+ghost use Rattle.tableau_calculus.specs.declared.rule_use.TwoPlaces.TheVariants.{Con};
 
 use crate::alternatives::{Alternatives, either_both};
 use crate::formula::literal_of;
@@ -81,7 +83,7 @@ pub fn equation_at(branch: &Lits, i: usize, positive: bool) -> Option<Equation<'
 }
 
 pub fn refl_instance(alloc: Global, branch: &Lits, i: usize) -> Option<Alternatives>
-    ensures { (scope : Scope) (rows : List Row) → FindsInstance scope rows branch.now (Refl i) result }
+    ensures { (scope : Scope) (rows : List Row) → FindsInstance scope rows branch.now (AtOne Refl i) result }
 {
     match equation_at(branch, i, false) {
         Some(equation) => {
@@ -121,7 +123,7 @@ pub fn bool_pos_instance(
     branch: &Lits,
     i: usize,
 ) -> Result<Option<Alternatives>, AllocError>
-    ensures { IfOk result (λ a. (scope : Scope) (rows : List Row) → FindsInstance scope rows branch.now (BoolPos i) a) }
+    ensures { IfOk result (λ a. (scope : Scope) (rows : List Row) → FindsInstance scope rows branch.now (AtOne BoolPos i) a) }
 {
     match equation_at(branch, i, true) {
         Some(equation) => {
@@ -140,7 +142,7 @@ pub fn bool_neg_instance(
     branch: &Lits,
     i: usize,
 ) -> Result<Option<Alternatives>, AllocError>
-    ensures { IfOk result (λ a. (scope : Scope) (rows : List Row) → FindsInstance scope rows branch.now (BoolNeg i) a) }
+    ensures { IfOk result (λ a. (scope : Scope) (rows : List Row) → FindsInstance scope rows branch.now (AtOne BoolNeg i) a) }
 {
     match equation_at(branch, i, false) {
         Some(equation) => {
@@ -197,7 +199,7 @@ pub fn con_instance(
     i: usize,
     j: usize,
 ) -> Result<Option<Alternatives>, AllocError>
-    ensures { IfOk result (λ a. (scope : Scope) (rows : List Row) → FindsInstance scope rows branch.now (Con i j) a) }
+    ensures { IfOk result (λ a. (scope : Scope) (rows : List Row) → FindsInstance scope rows branch.now (AtTwo Con i j) a) }
 {
     match equation_at(branch, i, true) {
         Some(equation) => match equation_at(branch, j, false) {

@@ -1,10 +1,14 @@
 //! The alternatives of a rule at its principals.
 
-ghost use Rattle.std.specs.Prelude.{◌≡◌, map, IfOk};
+ghost use Rattle.std.specs.Prelude.{◌≡◌, [], List, map, IfOk};
+ghost use Rattle.stt_core.specs.SimpleType.{SimpleType, predicate};
+ghost use Rattle.stt_core.specs.Canonical.{IsCanonical};
 ghost use Rattle.stt_core.specs.ScopeView.{the_scope};
 ghost use Rattle.tableau_calculus.specs.Literals.{IsBranch};
+ghost use Rattle.tableau_calculus.specs.Witnesses.{Row};
 ghost use Rattle.tableau_calculus.specs.Accepted.{IsTypedUse};
 ghost use Rattle.tableau_calculus.specs.Checks.{FindsInstance};
+ghost use Rattle.tableau_calculus.specs.declared.rule_use.RuleUse.TheVariants.{AtOne, AtTwo, WithPredicate};
 
 use crate::alternatives::Alternatives;
 use crate::decompose::{dec_instance, mat_instance};
@@ -17,8 +21,74 @@ use crate::quantifier::{
     all_neg_instance, all_pos_instance, cho_instance, fun_neg_instance, fun_pos_instance,
 };
 use std::alloc::{AllocError, Global};
-use stt_core::{Signature, Types};
-use tableau_calculus::{Lits, Rows, RuleUse};
+use stt_core::{Nf, Signature, Types};
+use tableau_calculus::{Lits, OfPredicate, OnePlace, PlainRule, Rows, RuleUse, TwoPlaces};
+
+/// The alternatives of a rule whose principal stands at its place in the branch, or none where it doesn't fit.
+fn at_one(
+    alloc: Global,
+    sig: &Signature,
+    types: &Types,
+    rows: &Rows,
+    branch: &Lits,
+    rule: OnePlace,
+    i: usize,
+) -> Result<Option<Alternatives>, AllocError>
+    requires types { types.now ≡ map (λ r. r.type) rows.now }
+    requires branch { IsBranch (the_scope sig.now types.now) branch.now }
+    ensures { IfOk result (FindsInstance (the_scope sig.now types.now) rows.now branch.now (AtOne rule i)) }
+{
+    match rule {
+        OnePlace::False => Ok(false_instance(alloc, branch, i)),
+        OnePlace::Refl => Ok(refl_instance(alloc, branch, i)),
+        OnePlace::ImpPos => Ok(imp_pos_instance(alloc, branch, i)?),
+        OnePlace::ImpNeg => Ok(imp_neg_instance(alloc, branch, i)?),
+        OnePlace::BoolPos => Ok(bool_pos_instance(alloc, branch, i)?),
+        OnePlace::BoolNeg => Ok(bool_neg_instance(alloc, branch, i)?),
+        OnePlace::FunPos => Ok(fun_pos_instance(alloc, branch, i)?),
+        OnePlace::FunNeg => Ok(fun_neg_instance(alloc, branch, i)?),
+        OnePlace::AllNeg => Ok(all_neg_instance(alloc, rows, branch, i)?),
+        OnePlace::Dec => Ok(dec_instance(alloc, sig, types, branch, i)?),
+    }
+}
+
+/// The alternatives of a rule whose principals stand at its places in the branch, or none where it doesn't fit.
+fn at_two(
+    alloc: Global,
+    sig: &Signature,
+    types: &Types,
+    branch: &Lits,
+    rule: TwoPlaces,
+    i: usize,
+    j: usize,
+) -> Result<Option<Alternatives>, AllocError>
+    requires { IsBranch (the_scope sig.now types.now) branch.now }
+    ensures { IfOk result (λ a. (rows : List Row) → FindsInstance (the_scope sig.now types.now) rows branch.now (AtTwo rule i j) a) }
+{
+    match rule {
+        TwoPlaces::Close => Ok(close_instance(alloc, branch, i, j)),
+        TwoPlaces::Mat => Ok(mat_instance(alloc, sig, types, branch, i, j)?),
+        TwoPlaces::Con => Ok(con_instance(alloc, branch, i, j)?),
+    }
+}
+
+/// The alternatives of a rule that takes a predicate, or none where it doesn't fit.
+fn with_predicate(
+    alloc: Global,
+    sig: &Signature,
+    types: &Types,
+    branch: &Lits,
+    rule: OfPredicate,
+    f: &Nf,
+) -> Result<Option<Alternatives>, AllocError>
+    requires { (a : SimpleType) × IsCanonical (the_scope sig.now types.now) [] (predicate a) f.now }
+    ensures { IfOk result (λ a. (rows : List Row) → FindsInstance (the_scope sig.now types.now) rows branch.now (WithPredicate rule f.now) a) }
+{
+    match rule {
+        OfPredicate::Cho => Ok(cho_instance(alloc, sig, types, branch, f)?),
+        OfPredicate::Des => Ok(des_instance(alloc, sig, types, branch, f)?),
+    }
+}
 
 /// The alternatives of a rule whose principals stand at its places in the branch, or none where it doesn't fit.
 pub fn find_instance(
@@ -27,7 +97,7 @@ pub fn find_instance(
     types: &Types,
     rows: &Rows,
     branch: &Lits,
-    rule: &RuleUse,
+    rule: &PlainRule,
 ) -> Result<Option<Alternatives>, AllocError>
     requires types { types.now ≡ map (λ r. r.type) rows.now }
     requires branch { IsBranch (the_scope sig.now types.now) branch.now }
@@ -35,22 +105,12 @@ pub fn find_instance(
     ensures { IfOk result (FindsInstance (the_scope sig.now types.now) rows.now branch.now rule.now) }
 {
     match rule {
-        RuleUse::False(i) => Ok(false_instance(alloc, branch, *i)),
-        RuleUse::Close(i, j) => Ok(close_instance(alloc, branch, *i, *j)),
-        RuleUse::ImpPos(i) => Ok(imp_pos_instance(alloc, branch, *i)?),
-        RuleUse::ImpNeg(i) => Ok(imp_neg_instance(alloc, branch, *i)?),
-        RuleUse::Cut(lit) => Ok(Some(cut_instance(alloc, branch, lit)?)),
-        RuleUse::Refl(i) => Ok(refl_instance(alloc, branch, *i)),
-        RuleUse::BoolPos(i) => Ok(bool_pos_instance(alloc, branch, *i)?),
-        RuleUse::BoolNeg(i) => Ok(bool_neg_instance(alloc, branch, *i)?),
-        RuleUse::FunPos(i) => Ok(fun_pos_instance(alloc, branch, *i)?),
-        RuleUse::FunNeg(i) => Ok(fun_neg_instance(alloc, branch, *i)?),
+        RuleUse::AtOne(rule, i) => Ok(at_one(alloc, sig, types, rows, branch, *rule, *i)?),
+        RuleUse::AtTwo(rule, i, j) => Ok(at_two(alloc, sig, types, branch, *rule, *i, *j)?),
         RuleUse::AllPos(i, u) => Ok(all_pos_instance(alloc, sig, types, branch, *i, u)?),
-        RuleUse::AllNeg(i) => Ok(all_neg_instance(alloc, rows, branch, *i)?),
-        RuleUse::Cho(f) => Ok(cho_instance(alloc, sig, types, branch, f)?),
-        RuleUse::Des(f) => Ok(des_instance(alloc, sig, types, branch, f)?),
-        RuleUse::Mat(i, j) => Ok(mat_instance(alloc, sig, types, branch, *i, *j)?),
-        RuleUse::Dec(i) => Ok(dec_instance(alloc, sig, types, branch, *i)?),
-        RuleUse::Con(i, j) => Ok(con_instance(alloc, branch, *i, *j)?),
+        RuleUse::WithPredicate(rule, f) => {
+            Ok(with_predicate(alloc, sig, types, branch, *rule, f)?)
+        }
+        RuleUse::Cut(lit) => Ok(Some(cut_instance(alloc, branch, lit)?)),
     }
 }

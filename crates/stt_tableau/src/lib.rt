@@ -20,7 +20,8 @@ pub use instance::find_instance;
 pub use quantifier::{Quantified, denied_of_witness, quantified_at};
 pub use start::{formula_literal, start_literals};
 pub use tableau_calculus::{
-    Child, Children, Connective, Line, Lines, Lit, Lits, PlainRefused, Refutation, Rows, RuleUse,
-    Shape, Why, WitnessRow, is_typed_literal, is_typed_row, is_typed_use, models_extend,
-    rules_keep_models, shape_of, soundness_law, start_keeps_models,
+    Child, Children, Connective, Line, Lines, Lit, Lits, OfPredicate, OnePlace, PlainRefused,
+    PlainRule, Refutation, Rows, RuleUse, Shape, TwoPlaces, Why, WitnessRow, is_typed_literal,
+    is_typed_row, is_typed_use, models_extend, rules_keep_models, shape_of, soundness_law,
+    start_keeps_models,
 };

@@ -6,7 +6,9 @@ ghost use Rattle.tableau_calculus.specs.Literals.{IsLiteral};
 ghost use Rattle.tableau_calculus.specs.Witnesses.{Row};
 ghost use Rattle.tableau_calculus.specs.Checks.{FindsInstance};
 ghost use Rattle.stt_tableau.specs.Internal.Instances.{HasShapeAt};
-ghost use Rattle.tableau_calculus.specs.declared.refutation.RuleUse.TheVariants.{False, Close, ImpPos, ImpNeg, Cut};
+ghost use Rattle.tableau_calculus.specs.declared.rule_use.RuleUse.TheVariants.{AtOne, AtTwo, Cut};
+ghost use Rattle.tableau_calculus.specs.declared.rule_use.OnePlace.TheVariants.{False, ImpPos, ImpNeg};
+ghost use Rattle.tableau_calculus.specs.declared.rule_use.TwoPlaces.TheVariants.{Close};
 
 use crate::alternatives::{Alternatives, both, either};
 use crate::formula::literal_of;
@@ -30,7 +32,7 @@ fn shape_at(branch: &Lits, i: usize, positive: bool) -> Shape<'_>
 }
 
 pub fn false_instance(alloc: Global, branch: &Lits, i: usize) -> Option<Alternatives>
-    ensures { (scope : Scope) (rows : List Row) → FindsInstance scope rows branch.now (False i) result }
+    ensures { (scope : Scope) (rows : List Row) → FindsInstance scope rows branch.now (AtOne False i) result }
 {
     match shape_at(branch, i, true) {
         Shape::False => Some(Alternatives::new(alloc)),
@@ -41,7 +43,7 @@ pub fn false_instance(alloc: Global, branch: &Lits, i: usize) -> Option<Alternat
 }
 
 pub fn close_instance(alloc: Global, branch: &Lits, i: usize, j: usize) -> Option<Alternatives>
-    ensures { (scope : Scope) (rows : List Row) → FindsInstance scope rows branch.now (Close i j) result }
+    ensures { (scope : Scope) (rows : List Row) → FindsInstance scope rows branch.now (AtTwo Close i j) result }
 {
     match branch.get(i) {
         Some(lit) => match branch.get(j) {
@@ -63,7 +65,7 @@ pub fn imp_pos_instance(
     branch: &Lits,
     i: usize,
 ) -> Result<Option<Alternatives>, AllocError>
-    ensures { IfOk result (λ a. (scope : Scope) (rows : List Row) → FindsInstance scope rows branch.now (ImpPos i) a) }
+    ensures { IfOk result (λ a. (scope : Scope) (rows : List Row) → FindsInstance scope rows branch.now (AtOne ImpPos i) a) }
 {
     match shape_at(branch, i, true) {
         Shape::Imp(s, t) => {
@@ -82,7 +84,7 @@ pub fn imp_neg_instance(
     branch: &Lits,
     i: usize,
 ) -> Result<Option<Alternatives>, AllocError>
-    ensures { IfOk result (λ a. (scope : Scope) (rows : List Row) → FindsInstance scope rows branch.now (ImpNeg i) a) }
+    ensures { IfOk result (λ a. (scope : Scope) (rows : List Row) → FindsInstance scope rows branch.now (AtOne ImpNeg i) a) }
 {
     match shape_at(branch, i, false) {
         Shape::Imp(s, t) => {

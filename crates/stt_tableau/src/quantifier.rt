@@ -16,7 +16,9 @@ ghost use Rattle.stt_tableau.specs.Internal.Parts.{IsQuantified};
 ghost use Rattle.tableau_calculus.specs.Rules.{at_new, agreement, nowhere, chosen};
 ghost use Rattle.tableau_calculus.specs.Checks.{FindsInstance, IsTypedWith};
 ghost use Rattle.stt_tableau.specs.Internal.Instances.{IsQuantifiedAt, IsRowOf, IsFunctionFrom, AreFunctionsFrom, IsPredicateOn, IsTypedSomewhere};
-ghost use Rattle.tableau_calculus.specs.declared.refutation.RuleUse.TheVariants.{FunPos, FunNeg, AllPos, AllNeg, Cho};
+ghost use Rattle.tableau_calculus.specs.declared.rule_use.RuleUse.TheVariants.{AtOne, AllPos, WithPredicate};
+ghost use Rattle.tableau_calculus.specs.declared.rule_use.OnePlace.TheVariants.{FunPos, FunNeg, AllNeg};
+ghost use Rattle.tableau_calculus.specs.declared.rule_use.OfPredicate.TheVariants.{Cho};
 
 use crate::alternatives::{Alternatives, either, one};
 use crate::equation::equation_at;
@@ -166,7 +168,7 @@ pub fn fun_pos_instance(
     i: usize,
 ) -> Result<Option<Alternatives>, AllocError>
     requires { IsTypedSomewhere branch.now }
-    ensures { IfOk result (λ a. (scope : Scope) (rows : List Row) → FindsInstance scope rows branch.now (FunPos i) a) }
+    ensures { IfOk result (λ a. (scope : Scope) (rows : List Row) → FindsInstance scope rows branch.now (AtOne FunPos i) a) }
 {
     match equation_at(branch, i, true) {
         Some(equation) => match equation.ty {
@@ -186,7 +188,7 @@ pub fn fun_neg_instance(
     i: usize,
 ) -> Result<Option<Alternatives>, AllocError>
     requires { IsTypedSomewhere branch.now }
-    ensures { IfOk result (λ a. (scope : Scope) (rows : List Row) → FindsInstance scope rows branch.now (FunNeg i) a) }
+    ensures { IfOk result (λ a. (scope : Scope) (rows : List Row) → FindsInstance scope rows branch.now (AtOne FunNeg i) a) }
 {
     match equation_at(branch, i, false) {
         Some(equation) => match equation.ty {
@@ -286,7 +288,7 @@ pub fn all_neg_instance(
     i: usize,
 ) -> Result<Option<Alternatives>, AllocError>
     requires { IsTypedWith rows.now branch.now }
-    ensures { IfOk result (λ a. (scope : Scope) → FindsInstance scope rows.now branch.now (AllNeg i) a) }
+    ensures { IfOk result (λ a. (scope : Scope) → FindsInstance scope rows.now branch.now (AtOne AllNeg i) a) }
 {
     match quantified_at(branch, i, false) {
         Some(quantified) => match witness_of(rows, &quantified) {
@@ -342,7 +344,7 @@ pub fn cho_instance(
     f: &Nf,
 ) -> Result<Option<Alternatives>, AllocError>
     requires { (a : SimpleType) × IsCanonical (the_scope sig.now types.now) [] (predicate a) f.now }
-    ensures { IfOk result (λ a. (rows : List Row) → FindsInstance (the_scope sig.now types.now) rows branch.now (Cho f.now) a) }
+    ensures { IfOk result (λ a. (rows : List Row) → FindsInstance (the_scope sig.now types.now) rows branch.now (WithPredicate Cho f.now) a) }
 {
     match type_of_closed(alloc, sig, types, f)? {
         Some(Ty::Arrow(a, _)) => Ok(Some(nowhere_or_chosen(alloc, &a, f)?)),

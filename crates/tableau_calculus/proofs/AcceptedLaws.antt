@@ -3,7 +3,8 @@ use Rattle.std.proofs.Common.{◌≡◌, ℕ, zero, suc, List, [], ◌∷◌, �
 use Rattle.stt_core.specs.Typing.{Scope}
 use Rattle.tableau_calculus.specs.Literals.{Literal}
 use Rattle.tableau_calculus.specs.Witnesses.{Row, with_rows}
-use Rattle.tableau_calculus.specs.Rules.{Rule, places, AreAt}
+use Rattle.tableau_calculus.specs.RuleUses.{principals_of}
+use Rattle.tableau_calculus.specs.Rules.{Rule, AreAt}
 use Rattle.tableau_calculus.specs.Accepted.{Within, AreChildren, IsRightLine, AreRightLines, IsAccepted}
 use Rattle.tableau_calculus.specs.Closed.{Tableau, leaf, Closes, CloseAll, literals_at, tableaux_of, tableau_of_line, tableau_after, tableau_of}
 use Rattle.tableau_calculus.specs.declared.refutation.Child.{Child}
@@ -62,8 +63,8 @@ module _ (scope : Scope) (rows : List Row) where
   line_covers earlier tableaux cover line right = record {
     closes = λ branch w. (
       right.alternatives,
-      subst (λ ps. Rule scope rows line.rule ps right.alternatives) (sym (literals_at-are line.branch (places line.rule) right.instance.principals right.instance.at_places)) right.instance.fits,
-      subst (λ ps. Within ps branch) (sym (literals_at-are line.branch (places line.rule) right.instance.principals right.instance.at_places)) (within-trans right.instance.principals line.branch branch (within-at line.branch (places line.rule) right.instance.principals right.instance.at_places) w),
+      subst (λ ps. Rule scope rows line.rule ps right.alternatives) (sym (literals_at-are line.branch (principals_of line.rule) right.instance.principals right.instance.at_places)) right.instance.fits,
+      subst (λ ps. Within ps branch) (sym (literals_at-are line.branch (principals_of line.rule) right.instance.principals right.instance.at_places)) (within-trans right.instance.principals line.branch branch (within-at line.branch (principals_of line.rule) right.instance.principals right.instance.at_places) w),
       children_close earlier tableaux cover line.branch branch w right.alternatives line.children right.children,
     );
   }

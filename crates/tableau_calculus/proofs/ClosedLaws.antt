@@ -6,7 +6,7 @@ use Rattle.tableau_calculus.specs.Literals.{Literal, opposite, IsLiteral, IsBran
 use Rattle.tableau_calculus.specs.Meets.{MeetsLiteral, MeetsBranch, MeetsOne}
 use Rattle.tableau_calculus.specs.Witnesses.{Row}
 use Rattle.tableau_calculus.specs.Along.{GoesAlong}
-use Rattle.tableau_calculus.specs.Rules.{places}
+use Rattle.tableau_calculus.specs.RuleUses.{principals_of}
 use Rattle.tableau_calculus.specs.Accepted.{Within, ClosesBy, AreChildren, IsRightLine, AreRightLines}
 use Rattle.tableau_calculus.specs.declared.refutation.Child.{Child}
 use Rattle.tableau_calculus.specs.declared.refutation.Child.TheVariants.{Closed, Line as Numbered}
@@ -67,7 +67,7 @@ module _ (scope : Scope) (rows : List Row) (types : scope.witnesses ≡ map (λ 
   line_refutes : (earlier : List Line) → MeetsNone earlier → (line : Line) → IsRightLine scope rows earlier line → MeetsBranch scope m line.branch → ⊥
   line_refutes earlier none line right met =
       let principals = right.instance.principals in
-      let there = within-at line.branch (places line.rule) principals right.instance.at_places in
+      let there = within-at line.branch (principals_of line.rule) principals right.instance.at_places in
       children_refute earlier none line.branch met right.alternatives line.children right.children
       (rule_keeps scope m good rows types along line.rule principals right.alternatives right.instance.fits (branch-within scope principals line.branch there right.typed.0) (meets-within scope m principals line.branch there met))
 

@@ -9,9 +9,12 @@ use Rattle.stt_core.proofs.SpineLaws.{parts}
 use Rattle.normal_forms.specs.Normal.{eta, apply}
 use Rattle.tableau_calculus.specs.Literals.{Literal, plus, minus, as_literal, opposite, IsLiteral}
 use Rattle.tableau_calculus.specs.Witnesses.{Row}
-use Rattle.tableau_calculus.specs.Rules.{Rule, false_rule, close_rule, refl_rule, imp_pos_rule, imp_neg_rule, bool_pos_rule, bool_neg_rule, fun_pos_rule, fun_neg_rule, all_pos_rule, all_neg_rule, mat_rule, dec_rule, con_rule, IsDecomposed, differ_each, cho_rule, des_rule, cut_rule, agreement, nowhere, chosen, at_most_once, described, places, AreAt, IsInstance}
-use Rattle.tableau_calculus.specs.declared.refutation.RuleUse.{RuleUse}
-use Rattle.tableau_calculus.specs.declared.refutation.RuleUse.TheVariants.{False, Close, Refl, ImpPos, ImpNeg, BoolPos, BoolNeg, FunPos, FunNeg, AllPos, AllNeg, Mat, Dec, Con, Cho, Des, Cut}
+use Rattle.tableau_calculus.specs.Rules.{Rule, false_rule, close_rule, refl_rule, imp_pos_rule, imp_neg_rule, bool_pos_rule, bool_neg_rule, fun_pos_rule, fun_neg_rule, all_pos_rule, all_neg_rule, mat_rule, dec_rule, con_rule, IsDecomposed, differ_each, cho_rule, des_rule, cut_rule, agreement, nowhere, chosen, at_most_once, described, PlainRule, AreAt, IsInstance}
+use Rattle.tableau_calculus.specs.RuleUses.{principals_of}
+use Rattle.tableau_calculus.specs.declared.rule_use.RuleUse.TheVariants.{AtOne, AtTwo, AllPos, WithPredicate, Cut}
+use Rattle.tableau_calculus.specs.declared.rule_use.OnePlace.TheVariants.{False, Refl, ImpPos, ImpNeg, BoolPos, BoolNeg, FunPos, FunNeg, AllNeg, Dec}
+use Rattle.tableau_calculus.specs.declared.rule_use.TwoPlaces.TheVariants.{Close, Mat, Con}
+use Rattle.tableau_calculus.specs.declared.rule_use.OfPredicate.TheVariants.{Cho, Des}
 
 -- the alternatives of a confrontation
 abbrev confronted : ℕ → Lambda → Lambda → Lambda → Lambda → List (List Literal)
@@ -23,37 +26,37 @@ abbrev pub AreDistinct : List Row → Type 0
 AreDistinct rows = (j k : ℕ) (q r : Row) → slice_get rows j ≡ Some q → slice_get rows k ≡ Some r → q.predicate ≡ r.predicate → j ≡ k
 
 -- what the table says of a rule, by the rule
-abbrev pub Fits : Scope → List Row → RuleUse → List Literal → List (List Literal) → Type 0
-Fits scope rows (False i) ps as' = (ps ≡ plus (constant falsity) ∷ []) × (as' ≡ [])
-Fits scope rows (Close i j) ps as' = (l : Literal) × (ps ≡ l ∷ opposite l ∷ []) × (as' ≡ [])
-Fits scope rows (ImpPos i) ps as' = (s : Lambda) × (t : Lambda) × (ps ≡ plus (imp s t) ∷ []) × (as' ≡ (opposite (as_literal s) ∷ []) ∷ (as_literal t ∷ []) ∷ [])
-Fits scope rows (ImpNeg i) ps as' = (s : Lambda) × (t : Lambda) × (ps ≡ minus (imp s t) ∷ []) × (as' ≡ (as_literal s ∷ opposite (as_literal t) ∷ []) ∷ [])
+abbrev pub Fits : Scope → List Row → PlainRule → List Literal → List (List Literal) → Type 0
+Fits scope rows (AtOne False i) ps as' = (ps ≡ plus (constant falsity) ∷ []) × (as' ≡ [])
+Fits scope rows (AtTwo Close i j) ps as' = (l : Literal) × (ps ≡ l ∷ opposite l ∷ []) × (as' ≡ [])
+Fits scope rows (AtOne ImpPos i) ps as' = (s : Lambda) × (t : Lambda) × (ps ≡ plus (imp s t) ∷ []) × (as' ≡ (opposite (as_literal s) ∷ []) ∷ (as_literal t ∷ []) ∷ [])
+Fits scope rows (AtOne ImpNeg i) ps as' = (s : Lambda) × (t : Lambda) × (ps ≡ minus (imp s t) ∷ []) × (as' ≡ (as_literal s ∷ opposite (as_literal t) ∷ []) ∷ [])
 Fits scope rows (Cut l) ps as' = (ps ≡ []) × (as' ≡ (l ∷ []) ∷ (opposite l ∷ []) ∷ [])
-Fits scope rows (Refl i) ps as' = (a : SimpleType) × (s : Lambda) × (ps ≡ minus (eq a s s) ∷ []) × (as' ≡ [])
-Fits scope rows (BoolPos i) ps as' =
+Fits scope rows (AtOne Refl i) ps as' = (a : SimpleType) × (s : Lambda) × (ps ≡ minus (eq a s s) ∷ []) × (as' ≡ [])
+Fits scope rows (AtOne BoolPos i) ps as' =
     (s : Lambda) × (t : Lambda) × (ps ≡ plus (eq formula s t) ∷ []) × (as' ≡ (as_literal s ∷ as_literal t ∷ []) ∷ (opposite (as_literal s) ∷ opposite (as_literal t) ∷ []) ∷ [])
-Fits scope rows (BoolNeg i) ps as' =
+Fits scope rows (AtOne BoolNeg i) ps as' =
     (s : Lambda) × (t : Lambda) × (ps ≡ minus (eq formula s t) ∷ []) × (as' ≡ (as_literal s ∷ opposite (as_literal t) ∷ []) ∷ (opposite (as_literal s) ∷ as_literal t ∷ []) ∷ [])
-Fits scope rows (Con i j) ps as' =
+Fits scope rows (AtTwo Con i j) ps as' =
     (n : ℕ) × (s : Lambda) × (t : Lambda) × (u : Lambda) × (v : Lambda) × (ps ≡ plus (eq (base (suc n)) s t) ∷ minus (eq (base (suc n)) u v) ∷ []) × (as' ≡ confronted n s t u v)
-Fits scope rows (FunPos i) ps as' =
+Fits scope rows (AtOne FunPos i) ps as' =
     (a : SimpleType) × (b : SimpleType) × (s : Lambda) × (t : Lambda) × (ps ≡ plus (eq (arrow a b) s t) ∷ []) × (as' ≡ (as_literal (agreement a b s t) ∷ []) ∷ [])
-Fits scope rows (FunNeg i) ps as' =
+Fits scope rows (AtOne FunNeg i) ps as' =
     (a : SimpleType) × (b : SimpleType) × (s : Lambda) × (t : Lambda) × (ps ≡ minus (eq (arrow a b) s t) ∷ []) × (as' ≡ (opposite (as_literal (agreement a b s t)) ∷ []) ∷ [])
 Fits scope rows (AllPos i u) ps as' =
     (a : SimpleType) × (f : Lambda) × IsCanonical scope [] a u × (ps ≡ plus (every a f) ∷ []) × (as' ≡ (as_literal (apply f u) ∷ []) ∷ [])
-Fits scope rows (AllNeg i) ps as' =
+Fits scope rows (AtOne AllNeg i) ps as' =
     (k : ℕ) × (a : SimpleType) × (f : Lambda) × (slice_get rows k ≡ Some (record { type = a; predicate = f })) × (ps ≡ minus (every a f) ∷ []) × (as' ≡ (opposite (as_literal (apply f (eta a (constant (witness k))))) ∷ []) ∷ [])
-Fits scope rows (Mat i j) ps as' =
+Fits scope rows (AtTwo Mat i j) ps as' =
     (c : Constant) × (a : SimpleType) × (s : Lambda) × (t : Lambda) × (ss : List Lambda) × (ts : List Lambda) × IsDecomposed c × (constant_type scope c ≡ Some a) × (ps ≡ plus (applied (constant c) (s ∷ ss)) ∷ minus (applied (constant c) (t ∷ ts)) ∷ []) × (as' ≡ differ_each a (s ∷ ss) (t ∷ ts))
-Fits scope rows (Dec i) ps as' =
+Fits scope rows (AtOne Dec i) ps as' =
     (n : ℕ) × (c : Constant) × (a : SimpleType) × (s : Lambda) × (t : Lambda) × (ss : List Lambda) × (ts : List Lambda) × IsDecomposed c × (constant_type scope c ≡ Some a) × (ps ≡ minus (eq (base (suc n)) (applied (constant c) (s ∷ ss)) (applied (constant c) (t ∷ ts))) ∷ []) × (as' ≡ differ_each a (s ∷ ss) (t ∷ ts))
-Fits scope rows (Cho f) ps as' =
+Fits scope rows (WithPredicate Cho f) ps as' =
     (a : SimpleType) × IsCanonical scope [] (predicate a) f × (ps ≡ []) × (as' ≡ (as_literal (nowhere a f) ∷ []) ∷ (as_literal (apply f (chosen a f)) ∷ []) ∷ [])
-Fits scope rows (Des f) ps as' =
+Fits scope rows (WithPredicate Des f) ps as' =
     (a : SimpleType) × IsCanonical scope [] (predicate a) f × (ps ≡ []) × (as' ≡ (as_literal (nowhere a f) ∷ []) ∷ (opposite (as_literal (at_most_once a f)) ∷ []) ∷ (as_literal (apply f (described a f)) ∷ []) ∷ [])
 
-pub fits : (scope : Scope) (rows : List Row) (rule : RuleUse) (ps : List Literal) (as' : List (List Literal)) → Rule scope rows rule ps as' → Fits scope rows rule ps as'
+pub fits : (scope : Scope) (rows : List Row) (rule : PlainRule) (ps : List Literal) (as' : List (List Literal)) → Rule scope rows rule ps as' → Fits scope rows rule ps as'
 fits scope rows _ _ _ (false_rule i) = (refl, refl)
 fits scope rows _ _ _ (close_rule i j l) = (l, refl, refl)
 fits scope rows _ _ _ (imp_pos_rule i s t) = (s, t, refl, refl)
@@ -83,17 +86,17 @@ same_differences scope c d a b ss us ts vs e f p q =
     let type : a ≡ b = cc in
     ap (λ x. differ_each x ss ts) type ∙ ap₂ (differ_each b) left.arguments right.arguments
 
-same_alternatives : (scope : Scope) (rows : List Row) → AreDistinct rows → (rule : RuleUse) (ps : List Literal) (as' bs : List (List Literal)) → Fits scope rows rule ps as' → Fits scope rows rule ps bs → as' ≡ bs
-same_alternatives scope rows distinct (False i) ps as' bs h k = h.1 ∙ sym k.1
-same_alternatives scope rows distinct (Close i j) ps as' bs h k = h.2 ∙ sym k.2
-same_alternatives scope rows distinct (ImpPos i) ps as' bs h k =
+same_alternatives : (scope : Scope) (rows : List Row) → AreDistinct rows → (rule : PlainRule) (ps : List Literal) (as' bs : List (List Literal)) → Fits scope rows rule ps as' → Fits scope rows rule ps bs → as' ≡ bs
+same_alternatives scope rows distinct (AtOne False i) ps as' bs h k = h.1 ∙ sym k.1
+same_alternatives scope rows distinct (AtTwo Close i j) ps as' bs h k = h.2 ∙ sym k.2
+same_alternatives scope rows distinct (AtOne ImpPos i) ps as' bs h k =
     let e : plus (imp h.0 h.1) ∷ [] ≡ plus (imp k.0 k.1) ∷ [] = sym h.2 ∙ k.2 in
     let l : plus (imp h.0 h.1) ≡ plus (imp k.0 k.1) = cc in
     let a : imp h.0 h.1 ≡ imp k.0 k.1 = ap (λ x. x.atom) l in
     let p : h.0 ≡ k.0 = cc in
     let q : h.1 ≡ k.1 = cc in
     h.3 ∙ ap₂ (λ s t. (opposite (as_literal s) ∷ []) ∷ (as_literal t ∷ []) ∷ []) p q ∙ sym k.3
-same_alternatives scope rows distinct (ImpNeg i) ps as' bs h k =
+same_alternatives scope rows distinct (AtOne ImpNeg i) ps as' bs h k =
     let e : minus (imp h.0 h.1) ∷ [] ≡ minus (imp k.0 k.1) ∷ [] = sym h.2 ∙ k.2 in
     let l : minus (imp h.0 h.1) ≡ minus (imp k.0 k.1) = cc in
     let a : imp h.0 h.1 ≡ imp k.0 k.1 = ap (λ x. x.atom) l in
@@ -101,22 +104,22 @@ same_alternatives scope rows distinct (ImpNeg i) ps as' bs h k =
     let q : h.1 ≡ k.1 = cc in
     h.3 ∙ ap₂ (λ s t. (as_literal s ∷ opposite (as_literal t) ∷ []) ∷ []) p q ∙ sym k.3
 same_alternatives scope rows distinct (Cut l) ps as' bs h k = h.1 ∙ sym k.1
-same_alternatives scope rows distinct (Refl i) ps as' bs h k = h.3 ∙ sym k.3
-same_alternatives scope rows distinct (BoolPos i) ps as' bs h k =
+same_alternatives scope rows distinct (AtOne Refl i) ps as' bs h k = h.3 ∙ sym k.3
+same_alternatives scope rows distinct (AtOne BoolPos i) ps as' bs h k =
     let e : plus (eq formula h.0 h.1) ∷ [] ≡ plus (eq formula k.0 k.1) ∷ [] = sym h.2 ∙ k.2 in
     let l : plus (eq formula h.0 h.1) ≡ plus (eq formula k.0 k.1) = cc in
     let a : eq formula h.0 h.1 ≡ eq formula k.0 k.1 = ap (λ x. x.atom) l in
     let p : h.0 ≡ k.0 = cc in
     let q : h.1 ≡ k.1 = cc in
     h.3 ∙ ap₂ (λ s t. (as_literal s ∷ as_literal t ∷ []) ∷ (opposite (as_literal s) ∷ opposite (as_literal t) ∷ []) ∷ []) p q ∙ sym k.3
-same_alternatives scope rows distinct (BoolNeg i) ps as' bs h k =
+same_alternatives scope rows distinct (AtOne BoolNeg i) ps as' bs h k =
     let e : minus (eq formula h.0 h.1) ∷ [] ≡ minus (eq formula k.0 k.1) ∷ [] = sym h.2 ∙ k.2 in
     let l : minus (eq formula h.0 h.1) ≡ minus (eq formula k.0 k.1) = cc in
     let a : eq formula h.0 h.1 ≡ eq formula k.0 k.1 = ap (λ x. x.atom) l in
     let p : h.0 ≡ k.0 = cc in
     let q : h.1 ≡ k.1 = cc in
     h.3 ∙ ap₂ (λ s t. (as_literal s ∷ opposite (as_literal t) ∷ []) ∷ (opposite (as_literal s) ∷ as_literal t ∷ []) ∷ []) p q ∙ sym k.3
-same_alternatives scope rows distinct (Con i j) ps as' bs h k =
+same_alternatives scope rows distinct (AtTwo Con i j) ps as' bs h k =
     let e : plus (eq (base (suc h.0)) h.1 h.2) ∷ minus (eq (base (suc h.0)) h.3 h.4) ∷ [] ≡ plus (eq (base (suc k.0)) k.1 k.2) ∷ minus (eq (base (suc k.0)) k.3 k.4) ∷ [] = sym h.5 ∙ k.5 in
     let l : plus (eq (base (suc h.0)) h.1 h.2) ≡ plus (eq (base (suc k.0)) k.1 k.2) = cc in
     let o : minus (eq (base (suc h.0)) h.3 h.4) ≡ minus (eq (base (suc k.0)) k.3 k.4) = cc in
@@ -128,7 +131,7 @@ same_alternatives scope rows distinct (Con i j) ps as' bs h k =
     let u : h.3 ≡ k.3 = cc in
     let v : h.4 ≡ k.4 = cc in
     h.6 ∙ ap (λ x. confronted x h.1 h.2 h.3 h.4) n ∙ ap₂ (λ x y. confronted k.0 x y h.3 h.4) s t ∙ ap₂ (λ x y. confronted k.0 k.1 k.2 x y) u v ∙ sym k.6
-same_alternatives scope rows distinct (FunPos i) ps as' bs h k =
+same_alternatives scope rows distinct (AtOne FunPos i) ps as' bs h k =
     let e : plus (eq (arrow h.0 h.1) h.2 h.3) ∷ [] ≡ plus (eq (arrow k.0 k.1) k.2 k.3) ∷ [] = sym h.4 ∙ k.4 in
     let l : plus (eq (arrow h.0 h.1) h.2 h.3) ≡ plus (eq (arrow k.0 k.1) k.2 k.3) = cc in
     let x : eq (arrow h.0 h.1) h.2 h.3 ≡ eq (arrow k.0 k.1) k.2 k.3 = ap (λ y. y.atom) l in
@@ -137,7 +140,7 @@ same_alternatives scope rows distinct (FunPos i) ps as' bs h k =
     let s : h.2 ≡ k.2 = cc in
     let t : h.3 ≡ k.3 = cc in
     h.5 ∙ ap₂ (λ x y. (as_literal (agreement x y h.2 h.3) ∷ []) ∷ []) a b ∙ ap₂ (λ x y. (as_literal (agreement k.0 k.1 x y) ∷ []) ∷ []) s t ∙ sym k.5
-same_alternatives scope rows distinct (FunNeg i) ps as' bs h k =
+same_alternatives scope rows distinct (AtOne FunNeg i) ps as' bs h k =
     let e : minus (eq (arrow h.0 h.1) h.2 h.3) ∷ [] ≡ minus (eq (arrow k.0 k.1) k.2 k.3) ∷ [] = sym h.4 ∙ k.4 in
     let l : minus (eq (arrow h.0 h.1) h.2 h.3) ≡ minus (eq (arrow k.0 k.1) k.2 k.3) = cc in
     let x : eq (arrow h.0 h.1) h.2 h.3 ≡ eq (arrow k.0 k.1) k.2 k.3 = ap (λ y. y.atom) l in
@@ -152,7 +155,7 @@ same_alternatives scope rows distinct (AllPos i u) ps as' bs h k =
     let x : every h.0 h.1 ≡ every k.0 k.1 = ap (λ y. y.atom) l in
     let f : h.1 ≡ k.1 = cc in
     h.4 ∙ ap (λ x. (as_literal (apply x u) ∷ []) ∷ []) f ∙ sym k.4
-same_alternatives scope rows distinct (AllNeg i) ps as' bs h k =
+same_alternatives scope rows distinct (AtOne AllNeg i) ps as' bs h k =
     let e : minus (every h.1 h.2) ∷ [] ≡ minus (every k.1 k.2) ∷ [] = sym h.4 ∙ k.4 in
     let l : minus (every h.1 h.2) ≡ minus (every k.1 k.2) = cc in
     let x : every h.1 h.2 ≡ every k.1 k.2 = ap (λ y. y.atom) l in
@@ -160,23 +163,23 @@ same_alternatives scope rows distinct (AllNeg i) ps as' bs h k =
     let f : h.2 ≡ k.2 = cc in
     let w = distinct h.0 k.0 (record { type = h.1; predicate = h.2 }) (record { type = k.1; predicate = k.2 }) h.3 k.3 f in
     h.5 ∙ ap₂ (λ x y. (opposite (as_literal (apply y (eta x (constant (witness h.0))))) ∷ []) ∷ []) a f ∙ ap (λ x. (opposite (as_literal (apply k.2 (eta k.1 (constant (witness x))))) ∷ []) ∷ []) w ∙ sym k.5
-same_alternatives scope rows distinct (Mat i j) ps as' bs h k =
+same_alternatives scope rows distinct (AtTwo Mat i j) ps as' bs h k =
     let e : plus (applied (constant h.0) (h.2 ∷ h.4)) ∷ minus (applied (constant h.0) (h.3 ∷ h.5)) ∷ [] ≡ plus (applied (constant k.0) (k.2 ∷ k.4)) ∷ minus (applied (constant k.0) (k.3 ∷ k.5)) ∷ [] = sym h.8 ∙ k.8 in
     let l : plus (applied (constant h.0) (h.2 ∷ h.4)) ≡ plus (applied (constant k.0) (k.2 ∷ k.4)) = cc in
     let o : minus (applied (constant h.0) (h.3 ∷ h.5)) ≡ minus (applied (constant k.0) (k.3 ∷ k.5)) = cc in
     h.9 ∙ same_differences scope h.0 k.0 h.1 k.1 (h.2 ∷ h.4) (k.2 ∷ k.4) (h.3 ∷ h.5) (k.3 ∷ k.5) h.7 k.7 (ap (λ x. x.atom) l) (ap (λ x. x.atom) o) ∙ sym k.9
-same_alternatives scope rows distinct (Dec i) ps as' bs h k =
+same_alternatives scope rows distinct (AtOne Dec i) ps as' bs h k =
     let e : minus (eq (base (suc h.0)) (applied (constant h.1) (h.3 ∷ h.5)) (applied (constant h.1) (h.4 ∷ h.6))) ∷ [] ≡ minus (eq (base (suc k.0)) (applied (constant k.1) (k.3 ∷ k.5)) (applied (constant k.1) (k.4 ∷ k.6))) ∷ [] = sym h.9 ∙ k.9 in
     let l : minus (eq (base (suc h.0)) (applied (constant h.1) (h.3 ∷ h.5)) (applied (constant h.1) (h.4 ∷ h.6))) ≡ minus (eq (base (suc k.0)) (applied (constant k.1) (k.3 ∷ k.5)) (applied (constant k.1) (k.4 ∷ k.6))) = cc in
     let x : eq (base (suc h.0)) (applied (constant h.1) (h.3 ∷ h.5)) (applied (constant h.1) (h.4 ∷ h.6)) ≡ eq (base (suc k.0)) (applied (constant k.1) (k.3 ∷ k.5)) (applied (constant k.1) (k.4 ∷ k.6)) = ap (λ y. y.atom) l in
     let p : applied (constant h.1) (h.3 ∷ h.5) ≡ applied (constant k.1) (k.3 ∷ k.5) = cc in
     let q : applied (constant h.1) (h.4 ∷ h.6) ≡ applied (constant k.1) (k.4 ∷ k.6) = cc in
     h.10 ∙ same_differences scope h.1 k.1 h.2 k.2 (h.3 ∷ h.5) (k.3 ∷ k.5) (h.4 ∷ h.6) (k.4 ∷ k.6) h.8 k.8 p q ∙ sym k.10
-same_alternatives scope rows distinct (Cho f) ps as' bs h k =
+same_alternatives scope rows distinct (WithPredicate Cho f) ps as' bs h k =
     let e : Some (predicate h.0) ≡ Some (predicate k.0) = sym (canonical_type-at scope [] (predicate h.0) f h.1) ∙ canonical_type-at scope [] (predicate k.0) f k.1 in
     let a : h.0 ≡ k.0 = cc in
     h.3 ∙ ap (λ x. (as_literal (nowhere x f) ∷ []) ∷ (as_literal (apply f (chosen x f)) ∷ []) ∷ []) a ∙ sym k.3
-same_alternatives scope rows distinct (Des f) ps as' bs h k =
+same_alternatives scope rows distinct (WithPredicate Des f) ps as' bs h k =
     let e : Some (predicate h.0) ≡ Some (predicate k.0) = sym (canonical_type-at scope [] (predicate h.0) f h.1) ∙ canonical_type-at scope [] (predicate k.0) f k.1 in
     let a : h.0 ≡ k.0 = cc in
     h.3 ∙ ap (λ x. (as_literal (nowhere x f) ∷ []) ∷ (opposite (as_literal (at_most_once x f)) ∷ []) ∷ (as_literal (apply f (described x f)) ∷ []) ∷ []) a ∙ sym k.3
@@ -193,73 +196,73 @@ same_at branch (i ∷ is) (l ∷ ls) (k' ∷ ks) h k =
     ap₂ (λ x xs. x ∷ xs) p (same_at branch is ls ks h.1 k.1)
 
 -- two instances of a rule in a branch have the same alternatives
-pub one_instance : (scope : Scope) (rows : List Row) → AreDistinct rows → (branch : List Literal) (rule : RuleUse) (as' bs : List (List Literal)) → IsInstance scope rows branch rule as' → IsInstance scope rows branch rule bs → as' ≡ bs
+pub one_instance : (scope : Scope) (rows : List Row) → AreDistinct rows → (branch : List Literal) (rule : PlainRule) (as' bs : List (List Literal)) → IsInstance scope rows branch rule as' → IsInstance scope rows branch rule bs → as' ≡ bs
 one_instance scope rows distinct branch rule as' bs h k =
     same_alternatives scope rows distinct rule k.principals as' bs
-    (subst (λ ps. Fits scope rows rule ps as') (same_at branch (places rule) h.principals k.principals h.at_places k.at_places) (fits scope rows rule h.principals as' h.fits))
+    (subst (λ ps. Fits scope rows rule ps as') (same_at branch (principals_of rule) h.principals k.principals h.at_places k.at_places) (fits scope rows rule h.principals as' h.fits))
     (fits scope rows rule k.principals bs k.fits)
 
 module _ (scope : Scope) (rows : List Row) (branch : List Literal) where
-  pub false_is : (i : ℕ) (as' : List (List Literal)) → slice_get branch i ≡ Some (plus (constant falsity)) → as' ≡ [] → IsInstance scope rows branch (False i) as'
+  pub false_is : (i : ℕ) (as' : List (List Literal)) → slice_get branch i ≡ Some (plus (constant falsity)) → as' ≡ [] → IsInstance scope rows branch (AtOne False i) as'
   false_is i as' h e =
-      subst (IsInstance scope rows branch (False i)) (sym e) (record { principals = plus (constant falsity) ∷ []; at_places = (h, tt); fits = false_rule i })
+      subst (IsInstance scope rows branch (AtOne False i)) (sym e) (record { principals = plus (constant falsity) ∷ []; at_places = (h, tt); fits = false_rule i })
 
-  pub close_is : (i j : ℕ) (l k : Literal) (as' : List (List Literal)) → slice_get branch i ≡ Some l → slice_get branch j ≡ Some k → k ≡ opposite l → as' ≡ [] → IsInstance scope rows branch (Close i j) as'
+  pub close_is : (i j : ℕ) (l k : Literal) (as' : List (List Literal)) → slice_get branch i ≡ Some l → slice_get branch j ≡ Some k → k ≡ opposite l → as' ≡ [] → IsInstance scope rows branch (AtTwo Close i j) as'
   close_is i j l k as' h g o e =
-      subst (IsInstance scope rows branch (Close i j)) (sym e) (record { principals = l ∷ opposite l ∷ []; at_places = (h, (g ∙ ap Some o, tt)); fits = close_rule i j l })
+      subst (IsInstance scope rows branch (AtTwo Close i j)) (sym e) (record { principals = l ∷ opposite l ∷ []; at_places = (h, (g ∙ ap Some o, tt)); fits = close_rule i j l })
 
-  pub imp_pos_is : (i : ℕ) (s t : Lambda) (a b : Literal) (as' : List (List Literal)) → slice_get branch i ≡ Some (plus (imp s t)) → a ≡ opposite (as_literal s) → b ≡ as_literal t → as' ≡ (a ∷ []) ∷ (b ∷ []) ∷ [] → IsInstance scope rows branch (ImpPos i) as'
+  pub imp_pos_is : (i : ℕ) (s t : Lambda) (a b : Literal) (as' : List (List Literal)) → slice_get branch i ≡ Some (plus (imp s t)) → a ≡ opposite (as_literal s) → b ≡ as_literal t → as' ≡ (a ∷ []) ∷ (b ∷ []) ∷ [] → IsInstance scope rows branch (AtOne ImpPos i) as'
   imp_pos_is i s t a b as' h p q e =
-      subst (IsInstance scope rows branch (ImpPos i)) (sym (e ∙ ap₂ (λ x y. (x ∷ []) ∷ (y ∷ []) ∷ []) p q)) (record { principals = plus (imp s t) ∷ []; at_places = (h, tt); fits = imp_pos_rule i s t })
+      subst (IsInstance scope rows branch (AtOne ImpPos i)) (sym (e ∙ ap₂ (λ x y. (x ∷ []) ∷ (y ∷ []) ∷ []) p q)) (record { principals = plus (imp s t) ∷ []; at_places = (h, tt); fits = imp_pos_rule i s t })
 
-  pub imp_neg_is : (i : ℕ) (s t : Lambda) (a b : Literal) (as' : List (List Literal)) → slice_get branch i ≡ Some (minus (imp s t)) → a ≡ as_literal s → b ≡ opposite (as_literal t) → as' ≡ (a ∷ b ∷ []) ∷ [] → IsInstance scope rows branch (ImpNeg i) as'
+  pub imp_neg_is : (i : ℕ) (s t : Lambda) (a b : Literal) (as' : List (List Literal)) → slice_get branch i ≡ Some (minus (imp s t)) → a ≡ as_literal s → b ≡ opposite (as_literal t) → as' ≡ (a ∷ b ∷ []) ∷ [] → IsInstance scope rows branch (AtOne ImpNeg i) as'
   imp_neg_is i s t a b as' h p q e =
-      subst (IsInstance scope rows branch (ImpNeg i)) (sym (e ∙ ap₂ (λ x y. (x ∷ y ∷ []) ∷ []) p q)) (record { principals = minus (imp s t) ∷ []; at_places = (h, tt); fits = imp_neg_rule i s t })
+      subst (IsInstance scope rows branch (AtOne ImpNeg i)) (sym (e ∙ ap₂ (λ x y. (x ∷ y ∷ []) ∷ []) p q)) (record { principals = minus (imp s t) ∷ []; at_places = (h, tt); fits = imp_neg_rule i s t })
 
-  pub refl_is : (i : ℕ) (a : SimpleType) (s t : Lambda) (as' : List (List Literal)) → slice_get branch i ≡ Some (minus (eq a s t)) → s ≡ t → as' ≡ [] → IsInstance scope rows branch (Refl i) as'
+  pub refl_is : (i : ℕ) (a : SimpleType) (s t : Lambda) (as' : List (List Literal)) → slice_get branch i ≡ Some (minus (eq a s t)) → s ≡ t → as' ≡ [] → IsInstance scope rows branch (AtOne Refl i) as'
   refl_is i a s t as' h same e =
-      subst (IsInstance scope rows branch (Refl i)) (sym e) (record { principals = minus (eq a s s) ∷ []; at_places = (h ∙ ap (λ x. Some (minus (eq a s x))) (sym same), tt); fits = refl_rule i a s })
+      subst (IsInstance scope rows branch (AtOne Refl i)) (sym e) (record { principals = minus (eq a s s) ∷ []; at_places = (h ∙ ap (λ x. Some (minus (eq a s x))) (sym same), tt); fits = refl_rule i a s })
 
-  pub bool_pos_is : (i : ℕ) (a : SimpleType) (s t : Lambda) (as' : List (List Literal)) → slice_get branch i ≡ Some (plus (eq a s t)) → a ≡ formula → as' ≡ (as_literal s ∷ as_literal t ∷ []) ∷ (opposite (as_literal s) ∷ opposite (as_literal t) ∷ []) ∷ [] → IsInstance scope rows branch (BoolPos i) as'
+  pub bool_pos_is : (i : ℕ) (a : SimpleType) (s t : Lambda) (as' : List (List Literal)) → slice_get branch i ≡ Some (plus (eq a s t)) → a ≡ formula → as' ≡ (as_literal s ∷ as_literal t ∷ []) ∷ (opposite (as_literal s) ∷ opposite (as_literal t) ∷ []) ∷ [] → IsInstance scope rows branch (AtOne BoolPos i) as'
   bool_pos_is i a s t as' h is e =
-      subst (IsInstance scope rows branch (BoolPos i)) (sym e) (record { principals = plus (eq formula s t) ∷ []; at_places = (h ∙ ap (λ x. Some (plus (eq x s t))) is, tt); fits = bool_pos_rule i s t })
+      subst (IsInstance scope rows branch (AtOne BoolPos i)) (sym e) (record { principals = plus (eq formula s t) ∷ []; at_places = (h ∙ ap (λ x. Some (plus (eq x s t))) is, tt); fits = bool_pos_rule i s t })
 
-  pub bool_neg_is : (i : ℕ) (a : SimpleType) (s t : Lambda) (as' : List (List Literal)) → slice_get branch i ≡ Some (minus (eq a s t)) → a ≡ formula → as' ≡ (as_literal s ∷ opposite (as_literal t) ∷ []) ∷ (opposite (as_literal s) ∷ as_literal t ∷ []) ∷ [] → IsInstance scope rows branch (BoolNeg i) as'
+  pub bool_neg_is : (i : ℕ) (a : SimpleType) (s t : Lambda) (as' : List (List Literal)) → slice_get branch i ≡ Some (minus (eq a s t)) → a ≡ formula → as' ≡ (as_literal s ∷ opposite (as_literal t) ∷ []) ∷ (opposite (as_literal s) ∷ as_literal t ∷ []) ∷ [] → IsInstance scope rows branch (AtOne BoolNeg i) as'
   bool_neg_is i a s t as' h is e =
-      subst (IsInstance scope rows branch (BoolNeg i)) (sym e) (record { principals = minus (eq formula s t) ∷ []; at_places = (h ∙ ap (λ x. Some (minus (eq x s t))) is, tt); fits = bool_neg_rule i s t })
+      subst (IsInstance scope rows branch (AtOne BoolNeg i)) (sym e) (record { principals = minus (eq formula s t) ∷ []; at_places = (h ∙ ap (λ x. Some (minus (eq x s t))) is, tt); fits = bool_neg_rule i s t })
 
-  pub fun_pos_is : (i : ℕ) (c a b : SimpleType) (s t whole : Lambda) (l : Literal) (as' : List (List Literal)) → slice_get branch i ≡ Some (plus (eq c s t)) → c ≡ arrow a b → whole ≡ agreement a b s t → l ≡ as_literal whole → as' ≡ (l ∷ []) ∷ [] → IsInstance scope rows branch (FunPos i) as'
+  pub fun_pos_is : (i : ℕ) (c a b : SimpleType) (s t whole : Lambda) (l : Literal) (as' : List (List Literal)) → slice_get branch i ≡ Some (plus (eq c s t)) → c ≡ arrow a b → whole ≡ agreement a b s t → l ≡ as_literal whole → as' ≡ (l ∷ []) ∷ [] → IsInstance scope rows branch (AtOne FunPos i) as'
   fun_pos_is i c a b s t whole l as' h is p q e =
-      subst (IsInstance scope rows branch (FunPos i)) (sym (e ∙ ap (λ x. (x ∷ []) ∷ []) (q ∙ ap as_literal p))) (record { principals = plus (eq (arrow a b) s t) ∷ []; at_places = (h ∙ ap (λ x. Some (plus (eq x s t))) is, tt); fits = fun_pos_rule i a b s t })
+      subst (IsInstance scope rows branch (AtOne FunPos i)) (sym (e ∙ ap (λ x. (x ∷ []) ∷ []) (q ∙ ap as_literal p))) (record { principals = plus (eq (arrow a b) s t) ∷ []; at_places = (h ∙ ap (λ x. Some (plus (eq x s t))) is, tt); fits = fun_pos_rule i a b s t })
 
-  pub fun_neg_is : (i : ℕ) (c a b : SimpleType) (s t whole : Lambda) (l k : Literal) (as' : List (List Literal)) → slice_get branch i ≡ Some (minus (eq c s t)) → c ≡ arrow a b → whole ≡ agreement a b s t → l ≡ as_literal whole → k ≡ opposite l → as' ≡ (k ∷ []) ∷ [] → IsInstance scope rows branch (FunNeg i) as'
+  pub fun_neg_is : (i : ℕ) (c a b : SimpleType) (s t whole : Lambda) (l k : Literal) (as' : List (List Literal)) → slice_get branch i ≡ Some (minus (eq c s t)) → c ≡ arrow a b → whole ≡ agreement a b s t → l ≡ as_literal whole → k ≡ opposite l → as' ≡ (k ∷ []) ∷ [] → IsInstance scope rows branch (AtOne FunNeg i) as'
   fun_neg_is i c a b s t whole l k as' h is p q o e =
-      subst (IsInstance scope rows branch (FunNeg i)) (sym (e ∙ ap (λ x. (x ∷ []) ∷ []) (o ∙ ap opposite (q ∙ ap as_literal p)))) (record { principals = minus (eq (arrow a b) s t) ∷ []; at_places = (h ∙ ap (λ x. Some (minus (eq x s t))) is, tt); fits = fun_neg_rule i a b s t })
+      subst (IsInstance scope rows branch (AtOne FunNeg i)) (sym (e ∙ ap (λ x. (x ∷ []) ∷ []) (o ∙ ap opposite (q ∙ ap as_literal p)))) (record { principals = minus (eq (arrow a b) s t) ∷ []; at_places = (h ∙ ap (λ x. Some (minus (eq x s t))) is, tt); fits = fun_neg_rule i a b s t })
 
   pub all_pos_is : (i : ℕ) (a : SimpleType) (f u whole : Lambda) (l : Literal) (as' : List (List Literal)) → slice_get branch i ≡ Some (plus (every a f)) → IsCanonical scope [] a u → whole ≡ apply f u → l ≡ as_literal whole → as' ≡ (l ∷ []) ∷ [] → IsInstance scope rows branch (AllPos i u) as'
   all_pos_is i a f u whole l as' h c p q e =
       subst (IsInstance scope rows branch (AllPos i u)) (sym (e ∙ ap (λ x. (x ∷ []) ∷ []) (q ∙ ap as_literal p))) (record { principals = plus (every a f) ∷ []; at_places = (h, tt); fits = all_pos_rule i a f u c })
 
-  pub all_neg_is : (i k : ℕ) (a : SimpleType) (f w whole : Lambda) (l m : Literal) (as' : List (List Literal)) → slice_get branch i ≡ Some (minus (every a f)) → slice_get rows k ≡ Some (record { type = a; predicate = f }) → w ≡ eta a (constant (witness k)) → whole ≡ apply f w → l ≡ as_literal whole → m ≡ opposite l → as' ≡ (m ∷ []) ∷ [] → IsInstance scope rows branch (AllNeg i) as'
+  pub all_neg_is : (i k : ℕ) (a : SimpleType) (f w whole : Lambda) (l m : Literal) (as' : List (List Literal)) → slice_get branch i ≡ Some (minus (every a f)) → slice_get rows k ≡ Some (record { type = a; predicate = f }) → w ≡ eta a (constant (witness k)) → whole ≡ apply f w → l ≡ as_literal whole → m ≡ opposite l → as' ≡ (m ∷ []) ∷ [] → IsInstance scope rows branch (AtOne AllNeg i) as'
   all_neg_is i k a f w whole l m as' h g is p q o e =
-      subst (IsInstance scope rows branch (AllNeg i)) (sym (e ∙ ap (λ x. (x ∷ []) ∷ []) (o ∙ ap opposite (q ∙ ap as_literal (p ∙ ap (apply f) is))))) (record { principals = minus (every a f) ∷ []; at_places = (h, tt); fits = all_neg_rule i k a f g })
+      subst (IsInstance scope rows branch (AtOne AllNeg i)) (sym (e ∙ ap (λ x. (x ∷ []) ∷ []) (o ∙ ap opposite (q ∙ ap as_literal (p ∙ ap (apply f) is))))) (record { principals = minus (every a f) ∷ []; at_places = (h, tt); fits = all_neg_rule i k a f g })
 
-  pub cho_is : (a : SimpleType) (f : Lambda) (as' : List (List Literal)) → IsCanonical scope [] (predicate a) f → as' ≡ (as_literal (nowhere a f) ∷ []) ∷ (as_literal (apply f (chosen a f)) ∷ []) ∷ [] → IsInstance scope rows branch (Cho f) as'
+  pub cho_is : (a : SimpleType) (f : Lambda) (as' : List (List Literal)) → IsCanonical scope [] (predicate a) f → as' ≡ (as_literal (nowhere a f) ∷ []) ∷ (as_literal (apply f (chosen a f)) ∷ []) ∷ [] → IsInstance scope rows branch (WithPredicate Cho f) as'
   cho_is a f as' c e =
-      subst (IsInstance scope rows branch (Cho f)) (sym e) (record { principals = []; at_places = tt; fits = cho_rule a f c })
+      subst (IsInstance scope rows branch (WithPredicate Cho f)) (sym e) (record { principals = []; at_places = tt; fits = cho_rule a f c })
 
-  pub des_is : (a : SimpleType) (f : Lambda) (as' : List (List Literal)) → IsCanonical scope [] (predicate a) f → as' ≡ (as_literal (nowhere a f) ∷ []) ∷ (opposite (as_literal (at_most_once a f)) ∷ []) ∷ (as_literal (apply f (described a f)) ∷ []) ∷ [] → IsInstance scope rows branch (Des f) as'
+  pub des_is : (a : SimpleType) (f : Lambda) (as' : List (List Literal)) → IsCanonical scope [] (predicate a) f → as' ≡ (as_literal (nowhere a f) ∷ []) ∷ (opposite (as_literal (at_most_once a f)) ∷ []) ∷ (as_literal (apply f (described a f)) ∷ []) ∷ [] → IsInstance scope rows branch (WithPredicate Des f) as'
   des_is a f as' c e =
-      subst (IsInstance scope rows branch (Des f)) (sym e) (record { principals = []; at_places = tt; fits = des_rule a f c })
+      subst (IsInstance scope rows branch (WithPredicate Des f)) (sym e) (record { principals = []; at_places = tt; fits = des_rule a f c })
 
-  pub con_is : (i j n : ℕ) (a b : SimpleType) → a ≡ base (suc n) → a ≡ b → (s t u v : Lambda) (first second : Literal × Literal) (as' : List (List Literal)) → slice_get branch i ≡ Some (plus (eq a s t)) → slice_get branch j ≡ Some (minus (eq b u v)) → (first.0 ≡ minus (eq a s u)) × (first.1 ≡ minus (eq a t u)) → (second.0 ≡ minus (eq a s v)) × (second.1 ≡ minus (eq a t v)) → as' ≡ (first.0 ∷ first.1 ∷ []) ∷ (second.0 ∷ second.1 ∷ []) ∷ [] → IsInstance scope rows branch (Con i j) as'
+  pub con_is : (i j n : ℕ) (a b : SimpleType) → a ≡ base (suc n) → a ≡ b → (s t u v : Lambda) (first second : Literal × Literal) (as' : List (List Literal)) → slice_get branch i ≡ Some (plus (eq a s t)) → slice_get branch j ≡ Some (minus (eq b u v)) → (first.0 ≡ minus (eq a s u)) × (first.1 ≡ minus (eq a t u)) → (second.0 ≡ minus (eq a s v)) × (second.1 ≡ minus (eq a t v)) → as' ≡ (first.0 ∷ first.1 ∷ []) ∷ (second.0 ∷ second.1 ∷ []) ∷ [] → IsInstance scope rows branch (AtTwo Con i j) as'
   con_is i j n a b is same s t u v first second as' h k p q e =
       let all : as' ≡ confronted n s t u v =
       e
       ∙ ap₂ (λ x y. (x ∷ y ∷ []) ∷ (second.0 ∷ second.1 ∷ []) ∷ []) p.0 p.1
       ∙ ap₂ (λ x y. (minus (eq a s u) ∷ minus (eq a t u) ∷ []) ∷ (x ∷ y ∷ []) ∷ []) q.0 q.1
       ∙ ap (λ x. (minus (eq x s u) ∷ minus (eq x t u) ∷ []) ∷ (minus (eq x s v) ∷ minus (eq x t v) ∷ []) ∷ []) is in
-      subst (IsInstance scope rows branch (Con i j)) (sym all) (record {
+      subst (IsInstance scope rows branch (AtTwo Con i j)) (sym all) (record {
         principals = plus (eq (base (suc n)) s t) ∷ minus (eq (base (suc n)) u v) ∷ [];
         at_places = (h ∙ ap (λ x. Some (plus (eq x s t))) is, (k ∙ ap (λ x. Some (minus (eq x u v))) (sym same ∙ is), tt));
         fits = con_rule i j n s t u v;

@@ -1,4 +1,5 @@
 pub mod ListLaws
+pub mod UseLaws
 pub mod ShareLaws
 pub mod LiteralLaws
 pub mod EquationLaws

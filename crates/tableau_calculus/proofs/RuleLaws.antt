@@ -12,8 +12,7 @@ use Rattle.stt_core.proofs.ConstantValues.{value-imp, bit}
 use Rattle.tableau_calculus.specs.Literals.{Literal, IsBranch}
 use Rattle.tableau_calculus.specs.Meets.{MeetsBranch, MeetsOne}
 use Rattle.tableau_calculus.specs.Witnesses.{Row}
-use Rattle.tableau_calculus.specs.Rules.{Rule, false_rule, close_rule, refl_rule, imp_pos_rule, imp_neg_rule, bool_pos_rule, bool_neg_rule, fun_pos_rule, fun_neg_rule, all_pos_rule, all_neg_rule, mat_rule, dec_rule, con_rule, cho_rule, des_rule, cut_rule, agreement, nowhere, chosen, at_most_once, described}
-use Rattle.tableau_calculus.specs.declared.refutation.RuleUse.{RuleUse}
+use Rattle.tableau_calculus.specs.Rules.{Rule, false_rule, close_rule, refl_rule, imp_pos_rule, imp_neg_rule, bool_pos_rule, bool_neg_rule, fun_pos_rule, fun_neg_rule, all_pos_rule, all_neg_rule, mat_rule, dec_rule, con_rule, cho_rule, des_rule, cut_rule, agreement, nowhere, chosen, at_most_once, described, PlainRule}
 use Rattle.tableau_calculus.proofs.LiteralLaws.{imp_canonical, value-bit, as_literal-says, literal_or_opposite, not_both}
 use Rattle.normal_forms.specs.Normal.{eta, apply}
 use Rattle.normal_forms.proofs.NormalValues.{canonical-eta, value-eta}
@@ -51,7 +50,7 @@ module _ (scope : Scope) (m : Model) (good : IsModel scope m) where
       value-imp scope m good [] [] tt s t (type_of-canonical scope [] formula s sides.0) (type_of-canonical scope [] formula t sides.1)
 
   -- a model that meets the principals of a rule meets one whole alternative
-  pub rule_keeps : (rows : List Row) → scope.witnesses ≡ map (λ r. r.type) rows → GoesAlong scope m rows → (rule : RuleUse) (principals : List Literal) (alternatives : List (List Literal)) → Rule scope rows rule principals alternatives → IsBranch scope principals → MeetsBranch scope m principals → MeetsOne scope m alternatives
+  pub rule_keeps : (rows : List Row) → scope.witnesses ≡ map (λ r. r.type) rows → GoesAlong scope m rows → (rule : PlainRule) (principals : List Literal) (alternatives : List (List Literal)) → Rule scope rows rule principals alternatives → IsBranch scope principals → MeetsBranch scope m principals → MeetsOne scope m alternatives
   rule_keeps rows types along _ _ _ (false_rule i) typed met = absurd (omega (arith, met.0))
   rule_keeps rows types along _ _ _ (close_rule i j l) typed met = not_both scope m l met.0 met.1.0
   rule_keeps rows types along _ _ _ (imp_pos_rule i s t) typed met =

@@ -5,9 +5,8 @@ use Rattle.stt_core.specs.Typing.{Scope}
 use Rattle.stt_core.specs.Canonical.{IsCanonical}
 use Rattle.tableau_calculus.specs.Literals.{Literal, opposite, IsLiteral, IsBranch}
 use Rattle.tableau_calculus.specs.Witnesses.{Row, with_rows, IsTypedRow, IsTwice, IsTable}
-use Rattle.tableau_calculus.specs.Rules.{IsInstance}
-use Rattle.tableau_calculus.specs.declared.refutation.RuleUse.{RuleUse}
-use Rattle.tableau_calculus.specs.declared.refutation.RuleUse.TheVariants.{AllPos, Cho, Des, Cut}
+use Rattle.tableau_calculus.specs.Rules.{PlainRule, IsInstance}
+use Rattle.tableau_calculus.specs.declared.rule_use.RuleUse.TheVariants.{AllPos, WithPredicate, Cut}
 use Rattle.tableau_calculus.specs.declared.refutation.Child.{Child}
 use Rattle.tableau_calculus.specs.declared.refutation.Child.TheVariants as child
 use Rattle.tableau_calculus.specs.declared.refutation.Line.{Line}
@@ -27,10 +26,9 @@ pub record IsClosedBranch (branch : List Literal) : Type 0 where
   pub holds_opposite : Contains branch (opposite literal)
 
 -- what a rule takes beside its principals is closed and canonical, and has the type that is wanted
-abbrev pub IsTypedUse : Scope → RuleUse → Type 0
+abbrev pub IsTypedUse : Scope → PlainRule → Type 0
 IsTypedUse scope (AllPos i u) = (a : SimpleType) × IsCanonical scope [] a u
-IsTypedUse scope (Cho f) = (a : SimpleType) × IsCanonical scope [] (predicate a) f
-IsTypedUse scope (Des f) = (a : SimpleType) × IsCanonical scope [] (predicate a) f
+IsTypedUse scope (WithPredicate kind f) = (a : SimpleType) × IsCanonical scope [] (predicate a) f
 IsTypedUse scope (Cut l) = IsLiteral scope l
 IsTypedUse scope rule = Unit {0}
 

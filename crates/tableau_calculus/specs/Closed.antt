@@ -3,9 +3,9 @@ use Rattle.std.specs.Prelude.{ℕ, List, [], ◌∷◌, ◌++◌, Option, Some, 
 use Rattle.stt_core.specs.Typing.{Scope}
 use Rattle.tableau_calculus.specs.Literals.{Literal}
 use Rattle.tableau_calculus.specs.Witnesses.{Row}
-use Rattle.tableau_calculus.specs.Rules.{Rule, places}
+use Rattle.tableau_calculus.specs.RuleUses.{principals_of}
+use Rattle.tableau_calculus.specs.Rules.{PlainRule, Rule}
 use Rattle.tableau_calculus.specs.Accepted.{Within, IsClosedBranch}
-use Rattle.tableau_calculus.specs.declared.refutation.RuleUse.{RuleUse}
 use Rattle.tableau_calculus.specs.declared.refutation.Child.{Child}
 use Rattle.tableau_calculus.specs.declared.refutation.Child.TheVariants.{Closed, Line as Numbered}
 use Rattle.tableau_calculus.specs.declared.refutation.Line.{Line}
@@ -15,7 +15,7 @@ use Rattle.tableau_calculus.specs.declared.refutation.Refutation.{Refutation}
 mutual
   pub data Tableau : Type 0 where
     leaf : Tableau
-    node : RuleUse → List Literal → Tableaux → Tableau
+    node : PlainRule → List Literal → Tableaux → Tableau
 
   pub data Tableaux : Type 0 where
     none : Tableaux
@@ -51,7 +51,7 @@ tableaux_of earlier (Closed ∷ cs) = more leaf (tableaux_of earlier cs)
 tableaux_of earlier (Numbered j ∷ cs) = more (unwrap_or (slice_get earlier j) leaf) (tableaux_of earlier cs)
 
 abbrev pub tableau_of_line : List Tableau → Line → Tableau
-tableau_of_line earlier line = node line.rule (literals_at line.branch (places line.rule)) (tableaux_of earlier line.children)
+tableau_of_line earlier line = node line.rule (literals_at line.branch (principals_of line.rule)) (tableaux_of earlier line.children)
 
 -- the tableau of the last line, where `last` and `earlier` have those of the lines before
 abbrev pub tableau_after : Tableau → List Tableau → List Line → Tableau

@@ -5,9 +5,8 @@ use Rattle.stt_core.specs.Meaning.{Model, IsModel}
 use Rattle.tableau_calculus.specs.Literals.{Literal, IsBranch}
 use Rattle.tableau_calculus.specs.Meets.{MeetsBranch, MeetsOne}
 use Rattle.tableau_calculus.specs.Witnesses.{Row, with_rows, IsTable}
-use Rattle.tableau_calculus.specs.Rules.{Rule}
+use Rattle.tableau_calculus.specs.Rules.{PlainRule, Rule}
 use Rattle.tableau_calculus.specs.Along.{extended, IsModelAlong}
-use Rattle.tableau_calculus.specs.declared.refutation.RuleUse.{RuleUse}
 
 -- every model extends along a witness table, to a model
 abbrev pub ModelsExtend : Scope → List Row → Type 0
@@ -16,4 +15,4 @@ ModelsExtend scope rows = IsTable scope rows → (m : Model) → IsModel scope m
 -- where the types of what is declared are declared, a model along the rows that meets the principals of a rule meets one whole alternative
 abbrev pub RulesKeepModels : Scope → List Row → Type 0
 RulesKeepModels scope rows =
-    (m : Model) → IsModelAlong scope rows m → (rule : RuleUse) (principals : List Literal) (alternatives : List (List Literal)) → Rule (with_rows scope rows) rows rule principals alternatives → IsBranch (with_rows scope rows) principals → MeetsBranch (with_rows scope rows) m principals → MeetsOne (with_rows scope rows) m alternatives
+    (m : Model) → IsModelAlong scope rows m → (rule : PlainRule) (principals : List Literal) (alternatives : List (List Literal)) → Rule (with_rows scope rows) rows rule principals alternatives → IsBranch (with_rows scope rows) principals → MeetsBranch (with_rows scope rows) m principals → MeetsOne (with_rows scope rows) m alternatives

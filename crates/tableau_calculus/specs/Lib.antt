@@ -16,6 +16,7 @@ pub use Rattle.stt_core.specs.View
 pub mod Literals
 pub mod Kinds
 pub mod Witnesses
+pub mod RuleUses
 pub mod Rules
 pub mod Along
 pub mod Accepted

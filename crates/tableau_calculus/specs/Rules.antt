@@ -13,8 +13,12 @@ use Rattle.stt_core.specs.Lift.{lift}
 use Rattle.normal_forms.specs.Normal.{eta, apply}
 use Rattle.tableau_calculus.specs.Literals.{Literal, plus, minus, opposite, as_literal, IsLiteral}
 use Rattle.tableau_calculus.specs.Witnesses.{Row}
-use Rattle.tableau_calculus.specs.declared.refutation.RuleUse.{RuleUse}
-use Rattle.tableau_calculus.specs.declared.refutation.RuleUse.TheVariants.{False, Close, Refl, ImpPos, ImpNeg, BoolPos, BoolNeg, FunPos, FunNeg, AllPos, AllNeg, Mat, Dec, Con, Cho, Des, Cut}
+use Rattle.tableau_calculus.specs.RuleUses.{principals_of}
+use Rattle.tableau_calculus.specs.declared.rule_use.RuleUse.{RuleUse}
+use Rattle.tableau_calculus.specs.declared.rule_use.RuleUse.TheVariants.{AtOne, AtTwo, AllPos, WithPredicate, Cut}
+use Rattle.tableau_calculus.specs.declared.rule_use.OnePlace.TheVariants.{False, Refl, ImpPos, ImpNeg, BoolPos, BoolNeg, FunPos, FunNeg, AllNeg, Dec}
+use Rattle.tableau_calculus.specs.declared.rule_use.TwoPlaces.TheVariants.{Close, Mat, Con}
+use Rattle.tableau_calculus.specs.declared.rule_use.OfPredicate.TheVariants.{Cho, Des}
 
 -- what a function gives at a new variable of this type, which is its argument type
 abbrev pub at_new : SimpleType → Lambda → Lambda
@@ -113,22 +117,26 @@ des a f =
     ∷ (as_literal (apply f (described a f)) ∷ [])
     ∷ []
 
+-- a rule's use in a branch: its principals by their places, canonical terms, literals
+abbrev pub PlainRule : Type 0
+PlainRule = RuleUse ℕ Lambda Literal
+
 -- The table: a rule with what it takes, its principals, and its alternatives. A branch that holds the principals is met only by models
 -- that meet a whole alternative too. A base type whose number is a successor is one other than that of formulas.
-pub data Rule (scope : Scope) (rows : List Row) : RuleUse → List Literal → List (List Literal) → Type 0 where
-  false_rule : (i : ℕ) → Rule scope rows (False i) (plus (constant falsity) ∷ []) []
-  close_rule : (i j : ℕ) (l : Literal) → Rule scope rows (Close i j) (l ∷ opposite l ∷ []) []
-  refl_rule : (i : ℕ) (a : SimpleType) (s : Lambda) → Rule scope rows (Refl i) (minus (eq a s s) ∷ []) []
-  imp_pos_rule : (i : ℕ) (s t : Lambda) → Rule scope rows (ImpPos i) (plus (imp s t) ∷ []) (imp_pos s t)
-  imp_neg_rule : (i : ℕ) (s t : Lambda) → Rule scope rows (ImpNeg i) (minus (imp s t) ∷ []) (imp_neg s t)
-  bool_pos_rule : (i : ℕ) (s t : Lambda) → Rule scope rows (BoolPos i) (plus (eq formula s t) ∷ []) (bool_pos s t)
-  bool_neg_rule : (i : ℕ) (s t : Lambda) → Rule scope rows (BoolNeg i) (minus (eq formula s t) ∷ []) (bool_neg s t)
+pub data Rule (scope : Scope) (rows : List Row) : PlainRule → List Literal → List (List Literal) → Type 0 where
+  false_rule : (i : ℕ) → Rule scope rows (AtOne False i) (plus (constant falsity) ∷ []) []
+  close_rule : (i j : ℕ) (l : Literal) → Rule scope rows (AtTwo Close i j) (l ∷ opposite l ∷ []) []
+  refl_rule : (i : ℕ) (a : SimpleType) (s : Lambda) → Rule scope rows (AtOne Refl i) (minus (eq a s s) ∷ []) []
+  imp_pos_rule : (i : ℕ) (s t : Lambda) → Rule scope rows (AtOne ImpPos i) (plus (imp s t) ∷ []) (imp_pos s t)
+  imp_neg_rule : (i : ℕ) (s t : Lambda) → Rule scope rows (AtOne ImpNeg i) (minus (imp s t) ∷ []) (imp_neg s t)
+  bool_pos_rule : (i : ℕ) (s t : Lambda) → Rule scope rows (AtOne BoolPos i) (plus (eq formula s t) ∷ []) (bool_pos s t)
+  bool_neg_rule : (i : ℕ) (s t : Lambda) → Rule scope rows (AtOne BoolNeg i) (minus (eq formula s t) ∷ []) (bool_neg s t)
   fun_pos_rule :
       (i : ℕ) (a b : SimpleType) (s t : Lambda)
-      → Rule scope rows (FunPos i) (plus (eq (arrow a b) s t) ∷ []) (fun_pos a b s t)
+      → Rule scope rows (AtOne FunPos i) (plus (eq (arrow a b) s t) ∷ []) (fun_pos a b s t)
   fun_neg_rule :
       (i : ℕ) (a b : SimpleType) (s t : Lambda)
-      → Rule scope rows (FunNeg i) (minus (eq (arrow a b) s t) ∷ []) (fun_neg a b s t)
+      → Rule scope rows (AtOne FunNeg i) (minus (eq (arrow a b) s t) ∷ []) (fun_neg a b s t)
   all_pos_rule :
       (i : ℕ) (a : SimpleType) (f u : Lambda)
       → IsCanonical scope [] a u
@@ -136,45 +144,25 @@ pub data Rule (scope : Scope) (rows : List Row) : RuleUse → List Literal → L
   all_neg_rule :
       (i k : ℕ) (a : SimpleType) (f : Lambda)
       → slice_get rows k ≡ Some (record { type = a; predicate = f })
-      → Rule scope rows (AllNeg i) (minus (every a f) ∷ []) (all_neg a f (constant (witness k)))
+      → Rule scope rows (AtOne AllNeg i) (minus (every a f) ∷ []) (all_neg a f (constant (witness k)))
   mat_rule :
       (i j : ℕ) (c : Constant) (a : SimpleType) (s t : Lambda) (ss ts : List Lambda)
       → IsDecomposed c
       → constant_type scope c ≡ Some a
-      → Rule scope rows (Mat i j) (plus (applied (constant c) (s ∷ ss)) ∷ minus (applied (constant c) (t ∷ ts)) ∷ [])
+      → Rule scope rows (AtTwo Mat i j) (plus (applied (constant c) (s ∷ ss)) ∷ minus (applied (constant c) (t ∷ ts)) ∷ [])
       (differ_each a (s ∷ ss) (t ∷ ts))
   dec_rule :
       (i n : ℕ) (c : Constant) (a : SimpleType) (s t : Lambda) (ss ts : List Lambda)
       → IsDecomposed c
       → constant_type scope c ≡ Some a
-      → Rule scope rows (Dec i) (minus (eq (base (suc n)) (applied (constant c) (s ∷ ss)) (applied (constant c) (t ∷ ts))) ∷ [])
+      → Rule scope rows (AtOne Dec i) (minus (eq (base (suc n)) (applied (constant c) (s ∷ ss)) (applied (constant c) (t ∷ ts))) ∷ [])
       (differ_each a (s ∷ ss) (t ∷ ts))
   con_rule :
       (i j n : ℕ) (s t u v : Lambda)
-      → Rule scope rows (Con i j) (plus (eq (base (suc n)) s t) ∷ minus (eq (base (suc n)) u v) ∷ []) (con (base (suc n)) s t u v)
-  cho_rule : (a : SimpleType) (f : Lambda) → IsCanonical scope [] (predicate a) f → Rule scope rows (Cho f) [] (cho a f)
-  des_rule : (a : SimpleType) (f : Lambda) → IsCanonical scope [] (predicate a) f → Rule scope rows (Des f) [] (des a f)
+      → Rule scope rows (AtTwo Con i j) (plus (eq (base (suc n)) s t) ∷ minus (eq (base (suc n)) u v) ∷ []) (con (base (suc n)) s t u v)
+  cho_rule : (a : SimpleType) (f : Lambda) → IsCanonical scope [] (predicate a) f → Rule scope rows (WithPredicate Cho f) [] (cho a f)
+  des_rule : (a : SimpleType) (f : Lambda) → IsCanonical scope [] (predicate a) f → Rule scope rows (WithPredicate Des f) [] (des a f)
   cut_rule : (l : Literal) → IsLiteral scope l → Rule scope rows (Cut l) [] ((l ∷ []) ∷ (opposite l ∷ []) ∷ [])
-
--- the places of the principals in the branch
-abbrev pub places : RuleUse → List ℕ
-places (False i) = i ∷ []
-places (Close i j) = i ∷ j ∷ []
-places (Refl i) = i ∷ []
-places (ImpPos i) = i ∷ []
-places (ImpNeg i) = i ∷ []
-places (BoolPos i) = i ∷ []
-places (BoolNeg i) = i ∷ []
-places (FunPos i) = i ∷ []
-places (FunNeg i) = i ∷ []
-places (AllPos i u) = i ∷ []
-places (AllNeg i) = i ∷ []
-places (Mat i j) = i ∷ j ∷ []
-places (Dec i) = i ∷ []
-places (Con i j) = i ∷ j ∷ []
-places (Cho f) = []
-places (Des f) = []
-places (Cut l) = []
 
 -- the literals stand at these places of the branch
 abbrev pub AreAt : List Literal → List ℕ → List Literal → Type 0
@@ -184,7 +172,7 @@ AreAt branch (i ∷ is) [] = ⊥
 AreAt branch (i ∷ is) (l ∷ ls) = (slice_get branch i ≡ Some l) × AreAt branch is ls
 
 -- an instance of the rule, whose principals stand at its places in the branch
-pub record IsInstance (scope : Scope) (rows : List Row) (branch : List Literal) (rule : RuleUse) (alternatives : List (List Literal)) : Type 0 where
+pub record IsInstance (scope : Scope) (rows : List Row) (branch : List Literal) (rule : PlainRule) (alternatives : List (List Literal)) : Type 0 where
   pub principals : List Literal
-  pub at_places : AreAt branch (places rule) principals
+  pub at_places : AreAt branch (principals_of rule) principals
   pub fits : Rule scope rows rule principals alternatives

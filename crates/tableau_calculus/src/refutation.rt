@@ -3,93 +3,11 @@
 ghost use Rattle.std.specs.Prelude.{◌≡◌, ◌<◌, ◌++◌, [], ◌∷◌, length, OnOk, OnErr, slice_get, option_copied, ◌^◌};
 
 use crate::lit::{Lit, Lits};
+use crate::rule_use::RuleUse;
 use std::alloc::{AllocError, Global};
 use std::marker::Model;
 use stt_core::{Nf, Ty};
 use thiserror::Error;
-
-/// A rule with what its instance takes. A number is the place of a principal in the branch, from 0. With each alternative, a list of
-/// literals, the branch goes on. Each line ends with the rule's source, and its name there where it has one: C. E. Brown, G. Smolka,
-/// *Analytic tableaux for simple type theory and its first-order fragment*, 2010, or J. Backes, C. E. Brown, *Analytic tableaux for
-/// higher-order logic with choice*, 2011. The table is `specs/Rules`.
-pub enum RuleUse {
-    /// The principal is falsity. There is no alternative: the branch is closed (this project's form of the rules for connectives).
-    False(usize),
-    /// The principals are a literal and its negation. There is no alternative (Brown and Smolka 2010, where a branch is closed).
-    Close(usize, usize),
-    /// The principal is a negated equation of a term with itself. There is no alternative (Brown and Smolka 2010, where a branch is closed;
-    /// here at each type).
-    Refl(usize),
-    /// The principal is an implication. One alternative has the negation of its left side, the other its right side (this project's form
-    /// of the rules for connectives).
-    ImpPos(usize),
-    /// The principal is a negated implication. The only alternative has its left side and the negation of its right side (this project's
-    /// form of the rules for connectives).
-    ImpNeg(usize),
-    /// The principal is an equation of formulas. One alternative has both sides, the other the negations of both (Brown and Smolka 2010,
-    /// BQ).
-    BoolPos(usize),
-    /// The principal is a negated equation of formulas. Each alternative has one side and the negation of the other (Brown and Smolka 2010,
-    /// BE).
-    BoolNeg(usize),
-    /// The principal is an equation of functions. The only alternative says that they agree at each argument (Brown and Smolka 2010, FQ;
-    /// here the alternative is a quantified formula).
-    FunPos(usize),
-    /// The principal is a negated equation of functions. The only alternative denies that they agree at each argument (Brown and Smolka
-    /// 2010, FE; here the alternative is a negated quantified formula).
-    FunNeg(usize),
-    /// The principal says that a predicate holds everywhere. The only alternative says that it holds of this term (Backes and Brown 2011,
-    /// the rule for quantifiers; there the branch restricts the terms).
-    AllPos(usize, Nf),
-    /// The principal denies that a predicate holds everywhere. The only alternative denies that it holds of the witness of its row (Backes
-    /// and Brown 2011, the rule for negated quantifiers; there a new name stands in place of the witness).
-    AllNeg(usize),
-    /// Mating. The principals are an atom and a negated atom with one head and with arguments. The head is a name, a witness, a choice or a
-    /// description. For each argument there is an alternative, which says that the two there differ (Brown and Smolka 2010, MAT; a choice
-    /// as the head: Backes and Brown 2011; a description as the head is this project's own).
-    Mat(usize, usize),
-    /// Decomposition. The principal is a negated equation on a base type other than that of formulas. Its sides have one head, as in `Mat`,
-    /// and arguments. For each argument there is an alternative, which says that the two there differ (Brown and Smolka 2010, DEC; the
-    /// heads as in `Mat`).
-    Dec(usize),
-    /// Confrontation. The principals are an equation and a negated equation, both on one base type other than that of formulas. One
-    /// alternative says that both sides of the first differ from the left side of the second, the other that both differ from its right
-    /// side (Brown and Smolka 2010, CON).
-    Con(usize, usize),
-    /// Choice by this predicate, without a principal. One alternative says that it holds nowhere, the other that it holds of what it
-    /// chooses (Backes and Brown 2011, the rule for choice; here for each predicate).
-    Cho(Nf),
-    /// Description by this predicate, without a principal. One alternative says that it holds nowhere, the second denies that it holds at
-    /// most once, and the third says that it holds of what it describes (the form is this project's own).
-    Des(Nf),
-    /// Cut with this literal, without a principal. One alternative has the literal, the other its negation (this project's own).
-    Cut(Lit),
-}
-
-// Written out, so that a proof takes a drop as one call.
-impl Drop for RuleUse {
-    fn drop(self) {
-        match self {
-            RuleUse::False(_)
-            | RuleUse::Close(_, _)
-            | RuleUse::Refl(_)
-            | RuleUse::ImpPos(_)
-            | RuleUse::ImpNeg(_)
-            | RuleUse::BoolPos(_)
-            | RuleUse::BoolNeg(_)
-            | RuleUse::FunPos(_)
-            | RuleUse::FunNeg(_)
-            | RuleUse::AllPos(_, _)
-            | RuleUse::AllNeg(_)
-            | RuleUse::Mat(_, _)
-            | RuleUse::Dec(_)
-            | RuleUse::Con(_, _)
-            | RuleUse::Cho(_)
-            | RuleUse::Des(_)
-            | RuleUse::Cut(_) => {}
-        }
-    }
-}
 
 /// What closes a branch with an alternative: a literal and its negation in it, or an earlier line by its number.
 #[derive(Clone, Copy, PartialEq, Eq)]
@@ -145,11 +63,14 @@ impl Children {
     }
 }
 
+/// A rule's use in a line: principals by their places in the branch, canonical terms, literals.
+pub type PlainRule = RuleUse<usize, Nf, Lit>;
+
 /// A line of a refutation: a branch, and the rule that closes it with the children.
 #[derive(Drop)]
 pub struct Line {
     pub branch: Lits,
-    pub rule: RuleUse,
+    pub rule: PlainRule,
     pub children: Children,
 }
 

@@ -9,7 +9,8 @@ ghost use Rattle.tableau_calculus.specs.Literals.{IsLiteral, IsBranch};
 ghost use Rattle.tableau_calculus.specs.Accepted.{IsTypedUse};
 
 use crate::lit::{Lit, Lits};
-use crate::refutation::{RuleUse, WitnessRow};
+use crate::refutation::{PlainRule, WitnessRow};
+use crate::rule_use::RuleUse;
 use std::alloc::{AllocError, Global};
 use stt_core::{Nf, Signature, Ty, Types, type_of_closed};
 
@@ -111,28 +112,16 @@ pub fn is_typed_use(
     alloc: Global,
     sig: &Signature,
     types: &Types,
-    rule: &RuleUse,
+    rule: &PlainRule,
 ) -> Result<bool, AllocError>
     ensures { IfOk result (λ b. IsTrue b ↔ IsTypedUse (the_scope sig.now types.now) rule.now) }
 {
     match rule {
+        RuleUse::AtOne(_, _) => Ok(true),
+        RuleUse::AtTwo(_, _, _) => Ok(true),
         RuleUse::AllPos(_, term) => Ok(has_some_type(alloc, sig, types, term)?),
-        RuleUse::Cho(term) => Ok(is_typed_predicate(alloc, sig, types, term)?),
-        RuleUse::Des(term) => Ok(is_typed_predicate(alloc, sig, types, term)?),
+        RuleUse::WithPredicate(_, term) => Ok(is_typed_predicate(alloc, sig, types, term)?),
         RuleUse::Cut(lit) => Ok(is_typed_literal(alloc, sig, types, lit)?),
-        RuleUse::False(_) => Ok(true),
-        RuleUse::Close(_, _) => Ok(true),
-        RuleUse::Refl(_) => Ok(true),
-        RuleUse::ImpPos(_) => Ok(true),
-        RuleUse::ImpNeg(_) => Ok(true),
-        RuleUse::BoolPos(_) => Ok(true),
-        RuleUse::BoolNeg(_) => Ok(true),
-        RuleUse::FunPos(_) => Ok(true),
-        RuleUse::FunNeg(_) => Ok(true),
-        RuleUse::AllNeg(_) => Ok(true),
-        RuleUse::Mat(_, _) => Ok(true),
-        RuleUse::Dec(_) => Ok(true),
-        RuleUse::Con(_, _) => Ok(true),
     }
 }
 

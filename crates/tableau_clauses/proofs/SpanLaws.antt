@@ -96,8 +96,8 @@ first-of-piece lists start len own some at =
 
 -- an instance with its lists
 pub unpacked-found : (lists : List (List SatLit)) (instances : List PackedInstance) (k : ℕ) (i : PackedInstance) (own : List SatLit) → slice_get instances k ≡ Some i → 0 < i.len → slice_get lists i.start ≡ Some own
-    → slice_get (all_unpacked lists instances) k ≡ Some (record { by = record { kind = i.kind; first = i.first; second = i.second; term = i.term }; principals = own; alternatives = drop 1 (piece_of lists i.start i.len) })
+    → slice_get (all_unpacked lists instances) k ≡ Some (record { by = i.by; principals = own; alternatives = drop 1 (piece_of lists i.start i.len) })
 unpacked-found lists instances k i own at some found =
     slice_get-map (unpacked_instance lists) instances k
     ∙ ap (option_map (unpacked_instance lists)) at
-    ∙ ap (λ (list : List SatLit). Some (let j : Instance = record { by = record { kind = i.kind; first = i.first; second = i.second; term = i.term }; principals = list; alternatives = drop 1 (piece_of lists i.start i.len) } in j)) (first-of-piece lists i.start i.len own some found)
+    ∙ ap (λ (list : List SatLit). Some (let j : Instance = record { by = i.by; principals = list; alternatives = drop 1 (piece_of lists i.start i.len) } in j)) (first-of-piece lists i.start i.len own some found)

@@ -4,20 +4,19 @@ ghost use Rattle.sat_base.specs.declared.literal.SatLit.{SatLit};
 ghost use Rattle.tableau_clauses.specs.Internal.Spans.{piece_of};
 
 use crate::lists::{PackedLists, narrow};
-use literal_map::{BankUse, Instance, LitLists, RuleKind};
-use sat_base::SatLit;
+use literal_map::{BankUse, Instance, LitLists};
 use sat_propagate::Packed;
 use std::alloc::{AllocError, Global};
 use std::marker::Model;
+use tableau_calculus::RuleUse;
 use term_bank::Id;
 
+type PackedUse = RuleUse<Packed, Id, Packed>;
+
 /// The use of a rule, and where its lists stand: first that of its principals, then its alternatives.
-#[derive(Clone, Copy)]
+#[derive(Drop)]
 pub(crate) struct PackedInstance {
-    pub(crate) kind: RuleKind,
-    pub(crate) first: Option<Packed>,
-    pub(crate) second: Option<Packed>,
-    pub(crate) term: Option<Id>,
+    pub(crate) by: PackedUse,
     pub(crate) start: u32,
     pub(crate) len: u32,
 }
@@ -42,23 +41,35 @@ impl Model for Instances {
     ghost invariant = { λ t. HaveLists t.lists t.instances.items };
 }
 
-/// The literal in four bytes, where there is one.
-fn packed(literal: Option<SatLit>) -> Result<Option<Packed>, AllocError>
-    ensures { IfOk result (λ p. p ≡ literal) }
+/// The use with its literals in four bytes.
+fn packed(by: &BankUse) -> Result<PackedUse, AllocError>
+    ensures { IfOk result (λ p. p ≡ by.now) }
 {
-    match literal {
-        Some(literal) => Ok(Some(Packed::of(literal)?)),
-        None => Ok(None),
+    match by {
+        RuleUse::AtOne(rule, lit) => Ok(RuleUse::AtOne(*rule, Packed::of(*lit)?)),
+        RuleUse::AtTwo(rule, first, second) => Ok(RuleUse::AtTwo(
+            *rule,
+            Packed::of(*first)?,
+            Packed::of(*second)?,
+        )),
+        RuleUse::AllPos(lit, term) => Ok(RuleUse::AllPos(Packed::of(*lit)?, *term)),
+        RuleUse::WithPredicate(rule, term) => Ok(RuleUse::WithPredicate(*rule, *term)),
+        RuleUse::Cut(lit) => Ok(RuleUse::Cut(Packed::of(*lit)?)),
     }
 }
 
-/// The literal, where there is one.
-fn literal(packed: Option<Packed>) -> Option<SatLit>
-    ensures { result ≡ packed }
+/// The use with its literals.
+fn unpacked(by: &PackedUse) -> BankUse
+    ensures { result ≡ by.now }
 {
-    match packed {
-        Some(packed) => Some(packed.literal()),
-        None => None,
+    match by {
+        RuleUse::AtOne(rule, lit) => RuleUse::AtOne(*rule, lit.literal()),
+        RuleUse::AtTwo(rule, first, second) => {
+            RuleUse::AtTwo(*rule, first.literal(), second.literal())
+        }
+        RuleUse::AllPos(lit, term) => RuleUse::AllPos(lit.literal(), *term),
+        RuleUse::WithPredicate(rule, term) => RuleUse::WithPredicate(*rule, *term),
+        RuleUse::Cut(lit) => RuleUse::Cut(lit.literal()),
     }
 }
 
@@ -115,25 +126,11 @@ impl Instances {
         ensures ok { OnOk result (self.new ≡ self.old ++ instance.now ∷ []) }
         ensures err { OnErr result (self.new ≡ self.old) }
     {
-        let BankUse {
-            kind,
-            first,
-            second,
-            term,
-        } = instance.by;
-        let first = packed(first)?;
-        let second = packed(second)?;
+        let by = packed(&instance.by)?;
         let start = narrow(self.lists.len())?;
         append_lists(&mut self.lists, instance)?;
         let len = narrow(self.lists.len())? - start;
-        self.instances.push(PackedInstance {
-            kind,
-            first,
-            second,
-            term,
-            start,
-            len,
-        })?;
+        self.instances.push(PackedInstance { by, start, len })?;
         Ok(())
     }
 
@@ -142,13 +139,8 @@ impl Instances {
         requires { k < length self.now }
         ensures { IfOk result (λ i. slice_get self.now k ≡ Some i) }
     {
-        let found = self.instances[k];
-        let by = BankUse {
-            kind: found.kind,
-            first: literal(found.first),
-            second: literal(found.second),
-            term: found.term,
-        };
+        let found = &self.instances[k];
+        let by = unpacked(&found.by);
         let principals = self.lists.get(self.alloc, found.start as usize)?;
         let alternatives = lists_behind(self.alloc, &self.lists, found.start, found.len)?;
         Ok(Instance {

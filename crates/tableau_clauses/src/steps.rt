@@ -7,7 +7,7 @@ ghost use Rattle.tableau_clauses.specs.Internal.Stepping.{with_steps, Adds};
 ghost use Rattle.tableau_clauses.specs.Table.{clauses_in, origins_in};
 
 use crate::key::Key;
-use crate::origin::Origin;
+use crate::origin::{Origin, PackedOrigin};
 use indexmap::IndexMap;
 use sat_base::Clause;
 use std::alloc::{AllocError, Global};
@@ -16,7 +16,8 @@ use std::marker::Model;
 /// Clauses, each of which is there once. A clause's number is its place.
 #[derive(Drop)]
 pub(crate) struct Steps {
-    table: IndexMap<Key, Origin>,
+    table: IndexMap<Key, PackedOrigin>,
+    alloc: Global,
 }
 
 impl Model for Steps {
@@ -34,6 +35,7 @@ impl Steps {
     {
         Steps {
             table: IndexMap::new(alloc),
+            alloc,
         }
     }
 
@@ -43,13 +45,13 @@ impl Steps {
         self.table.len()
     }
 
-    /// The clause with this number.
-    pub(crate) fn clause(&self, n: usize) -> &Clause
+    /// A copy of the clause with this number.
+    pub(crate) fn clause(&self, n: usize) -> Result<Clause, AllocError>
         requires { n < length self.now }
-        ensures { slice_get (clauses_in self.now) n ≡ Some result.now }
+        ensures { IfOk result (λ clause. slice_get (clauses_in self.now) n ≡ Some clause) }
     {
         match self.table.get_index(n) {
-            Some((key, _)) => &key.clause,
+            Some((key, _)) => key.clause(self.alloc),
             None => unreachable!(),
         }
     }
@@ -60,7 +62,7 @@ impl Steps {
         ensures { slice_get (origins_in self.now) n ≡ Some result }
     {
         match self.table.get_index(n) {
-            Some((_, origin)) => *origin,
+            Some((_, origin)) => origin.origin(),
             None => unreachable!(),
         }
     }
@@ -71,7 +73,17 @@ impl Steps {
         ensures fresh { IfOk result (λ is_new. is_new ≡ not (list_any (same_clause numbers clause) (clauses_in self.old))) }
         ensures err { OnErr result (self.new ≡ self.old) }
     {
-        let key = Key { clause };
+        let key = Key::of(self.alloc, &clause)?;
+        let origin = PackedOrigin::of(origin)?;
+        Ok(self.add_key(key, origin)?)
+    }
+
+    /// Adds the clause of a key, unless it is there. Whether it was added.
+    fn add_key(&mut self, key: Key, origin: PackedOrigin) -> Result<bool, AllocError>
+        ensures ok { OnOk result (self.new ≡ with_steps origin self.old (key ∷ [])) }
+        ensures fresh { IfOk result (λ is_new. is_new ≡ not (list_any (same_clause numbers key) (clauses_in self.old))) }
+        ensures err { OnErr result (self.new ≡ self.old) }
+    {
         match self.table.get_index_of(&key) {
             Some(_) => Ok(false),
             None => {

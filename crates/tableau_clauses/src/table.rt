@@ -75,10 +75,10 @@ impl StepTable {
         self.steps.len()
     }
 
-    /// The clause with this number.
-    pub fn clause(&self, n: usize) -> &Clause
+    /// A copy of the clause with this number.
+    pub fn clause(&self, n: usize) -> Result<Clause, AllocError>
         requires { n < length (the_clauses self.now) }
-        ensures { slice_get (the_clauses self.now) n ≡ Some result.now }
+        ensures { IfOk result (λ clause. slice_get (the_clauses self.now) n ≡ Some clause) }
     {
         self.steps.clause(n)
     }

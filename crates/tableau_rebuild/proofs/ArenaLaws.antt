@@ -4,7 +4,6 @@ use Rattle.std.proofs.lemmas.Bool.{eqb-true, eq-eqb, false≢true}
 use Rattle.std.proofs.lemmas.List.{get_or-set_same, get_or-set_other}
 use Rattle.std.proofs.lemmas.Option.{slice_get_within, slice_get-map}
 use Rattle.stt_core.specs.Lambda.{Lambda}
-use Rattle.tableau_calculus.specs.declared.refutation.RuleUse.TheVariants.{False}
 use Rattle.sat_base.specs.declared.literal.Var.{Var}
 use Rattle.sat_base.specs.declared.literal.SatLit.{SatLit}
 use Rattle.sat_log.specs.declared.log.LogEntry.{LogEntry}
@@ -17,7 +16,7 @@ use Rattle.rebuild_spec.specs.Trees.{Place, at_clause, at_result, Tree, leaf, ma
 use Rattle.rebuild_spec.specs.Stands.{start, line, instance_line, Stands, of_start, of_instance}
 use Rattle.rebuild_spec.proofs.WalkLaws.{get-append, get-push, get-middle}
 use Rattle.rebuild_spec.proofs.StandsLaws.{same_place-true}
-use Rattle.tableau_rebuild.specs.Tables.{no_instance, the_instance, sourced, the_sources, the_input}
+use Rattle.tableau_rebuild.specs.Tables.{no_rule, no_instance, the_instance, sourced, the_sources, the_input}
 use Rattle.tableau_rebuild.specs.declared.draft.At.{At}
 use Rattle.tableau_rebuild.specs.declared.draft.Draft.{Draft}
 use Rattle.tableau_rebuild.specs.declared.draft.Draft.TheVariants.{Clause, Close, Cut}
@@ -198,7 +197,7 @@ module _ (t : Table) (log : List LogEntry) (ds : List Draft) where
           let sources = the_sources b.terms atoms t in
           let instance = unwrap_or (option_map (the_instance b.terms atoms) (slice_get t.1 k)) no_instance in
           let at : slice_get sources n ≡ Some (clause_by c instance) = source b.terms atoms n c (From k) h in
-          let tree : fleshed sources (tree_at (trees ds) i) ≡ instance_line n c instance = ap (fleshed sources) (clause_tree ds i n drafted) ∙ ap (λ o. clause_line n o (leaf (at_clause n) [] (False 0) [])) at in
+          let tree : fleshed sources (tree_at (trees ds) i) ≡ instance_line n c instance = ap (fleshed sources) (clause_tree ds i n drafted) ∙ ap (λ o. clause_line n o (leaf (at_clause n) [] no_rule [])) at in
           subst (λ x. Stands (the_input b atoms t log witnesses) (at_clause n) c (line x)) (sym tree) (of_instance n c instance at)
 
   pub start_stands : (n : ℕ) (l : SatLit) → slice_get t.0 n ≡ Some (l ∷ [], FromStart) → StandsFor t log ds (at_clause n) (l ∷ []) (Start n)

@@ -1,11 +1,13 @@
 -- The trees of drafts.
 use Rattle.std.proofs.Common.{◌≡◌, ◌<◌, ◌+◌, ℕ, zero, suc, true, List, [], ◌∷◌, ◌++◌, length, Some, slice_get, refl, sym, ap, ap₂, ◌∙◌, subst, append_assoc, append-nil, length-append, arith}
 use Rattle.std.proofs.lemmas.Option.{slice_get_within}
-use Rattle.tableau_calculus.specs.declared.refutation.RuleUse.TheVariants.{False, Close as CloseRule}
+use Rattle.tableau_calculus.specs.declared.rule_use.RuleUse.TheVariants.{AtTwo}
+use Rattle.tableau_calculus.specs.declared.rule_use.TwoPlaces.TheVariants.{Close as CloseRule}
 use Rattle.sat_base.specs.declared.literal.Var.{Var}
 use Rattle.sat_base.specs.declared.literal.SatLit.{SatLit}
 use Rattle.rebuild_spec.specs.Trees.{at_clause, Tree, leaf, cut, same_line}
 use Rattle.rebuild_spec.proofs.WalkLaws.{IsEach}
+use Rattle.tableau_rebuild.specs.Tables.{no_rule}
 use Rattle.tableau_rebuild.specs.declared.draft.At.{At}
 use Rattle.tableau_rebuild.specs.declared.draft.Draft.{Draft}
 use Rattle.tableau_rebuild.specs.declared.draft.Draft.TheVariants.{Clause, Close, Cut}
@@ -66,11 +68,11 @@ module _ (drafts : List Draft) where
       let place : i ≡ length s.before = omega (arith, counted) in
       ap₂ tree_at s.are place ∙ at_middle s.before s.behind (tree_of s.before d) ∙ same s.before
 
-  pub clause_tree : (i n : ℕ) → slice_get drafts i ≡ Some (Clause n) → tree_at ts i ≡ leaf (at_clause n) [] (False 0) []
-  clause_tree i n h = leaf_tree i (Clause n) (leaf (at_clause n) [] (False 0) []) (λ earlier. refl) h
+  pub clause_tree : (i n : ℕ) → slice_get drafts i ≡ Some (Clause n) → tree_at ts i ≡ leaf (at_clause n) [] no_rule []
+  clause_tree i n h = leaf_tree i (Clause n) (leaf (at_clause n) [] no_rule []) (λ earlier. refl) h
 
-  pub close_tree : (i : ℕ) (at : At) (l m : SatLit) → slice_get drafts i ≡ Some (Close at l m) → tree_at ts i ≡ leaf (place_after_step at) (l ∷ m ∷ []) (CloseRule 0 1) []
-  close_tree i at l m h = leaf_tree i (Close at l m) (leaf (place_after_step at) (l ∷ m ∷ []) (CloseRule 0 1) []) (λ earlier. refl) h
+  pub close_tree : (i : ℕ) (at : At) (l m : SatLit) → slice_get drafts i ≡ Some (Close at l m) → tree_at ts i ≡ leaf (place_after_step at) (l ∷ m ∷ []) (AtTwo CloseRule 0 1) []
+  close_tree i at l m h = leaf_tree i (Close at l m) (leaf (place_after_step at) (l ∷ m ∷ []) (AtTwo CloseRule 0 1) []) (λ earlier. refl) h
 
   earlier_tree : (i a : ℕ) (d : Draft) (s : Split [] drafts i d) → a < i → tree_at s.before a ≡ tree_at ts a
   earlier_tree i a d s l =

@@ -2,7 +2,7 @@
 use Rattle.std.proofs.Common.{◌≡◌, ◌+◌, ◌||◌, not, cond, if◌then◌else◌, ℕ, Bool, true, false, List, [], ◌∷◌, ◌++◌, map, Option, Some, None, slice_get, refl, sym, ap, ap₂, ◌∙◌}
 use Rattle.std.specs.List.{list_any}
 use Rattle.stt_core.proofs.ListLaws.{map-append}
-use Rattle.tableau_calculus.specs.declared.refutation.RuleUse.{RuleUse}
+use Rattle.tableau_calculus.specs.Rules.{PlainRule}
 use Rattle.tableau_calculus.specs.declared.refutation.Child.{Child}
 use Rattle.sat_base.specs.declared.literal.SatLit.{SatLit}
 use Rattle.rebuild_spec.specs.Input.{Sourced, start_unit, clause_by}
@@ -14,7 +14,7 @@ module _ (sources : List Sourced) where
   flesh : Tree → Tree
   flesh t = fleshed sources t
 
-  clause_place : (n : ℕ) (o : Option Sourced) (ls : List SatLit) (rule : RuleUse) (children : List Child) → made_at (clause_line n o (leaf (at_clause n) ls rule children)) ≡ at_clause n
+  clause_place : (n : ℕ) (o : Option Sourced) (ls : List SatLit) (rule : PlainRule) (children : List Child) → made_at (clause_line n o (leaf (at_clause n) ls rule children)) ≡ at_clause n
   clause_place n (Some (clause_by c i)) ls rule children = refl
   clause_place n (Some (start_unit l)) ls rule children = refl
   clause_place n None ls rule children = refl
@@ -40,7 +40,7 @@ module _ (sources : List Sourced) where
       go true = refl
       go false = map-append (fleshed sources) done (t ∷ [])
 
-  alone : (done : List Tree) (n : ℕ) (o : Option Sourced) (ls : List SatLit) (rule : RuleUse) (children : List Child) → with_line done (clause_line n o (leaf (at_clause n) ls rule children)) ≡ walked done (clause_line n o (leaf (at_clause n) ls rule children))
+  alone : (done : List Tree) (n : ℕ) (o : Option Sourced) (ls : List SatLit) (rule : PlainRule) (children : List Child) → with_line done (clause_line n o (leaf (at_clause n) ls rule children)) ≡ walked done (clause_line n o (leaf (at_clause n) ls rule children))
   alone done n (Some (clause_by c i)) ls rule children = refl
   alone done n (Some (start_unit l)) ls rule children = refl
   alone done n None ls rule children = refl

@@ -1,5 +1,5 @@
 -- Tables of a search are a right input.
-use Rattle.std.proofs.Common.{◌≡◌, ℕ, List, [], ◌∷◌, map, take, drop, length, Some, unwrap_or, slice_get, Contains, refl, sym, ap, ◌∙◌, subst, arith}
+use Rattle.std.proofs.Common.{◌≡◌, ℕ, List, [], ◌∷◌, map, take, drop, length, Some, slice_get, Contains, refl, sym, ap, ◌∙◌, subst, arith}
 use Rattle.std.specs.List.{All}
 use Rattle.std.proofs.lemmas.List.{take-append-drop, take-map, take_at}
 use Rattle.std.proofs.lemmas.List.Elements.{All-contains}
@@ -8,8 +8,6 @@ use Rattle.stt_core.specs.Lambda.{Lambda}
 use Rattle.stt_core.specs.Canonical.{IsCanonical}
 use Rattle.tableau_calculus.specs.Literals.{plus, IsLiteral}
 use Rattle.tableau_calculus.specs.Witnesses.{Row, with_rows}
-use Rattle.tableau_calculus.specs.Rules.{Rule}
-use Rattle.tableau_calculus.specs.declared.refutation.RuleUse.TheVariants.{False}
 use Rattle.tableau_calculus.proofs.ListLaws.{contains_cases, contains-later, contains-first}
 use Rattle.sat_base.specs.declared.literal.SatLit.{SatLit}
 use Rattle.sat_log.specs.declared.log.LogEntry.{LogEntry}
@@ -19,7 +17,7 @@ use Rattle.literal_map.specs.Atoms.{IsAtom}
 use Rattle.search_spec.proofs.WiderLaws.{canonical_wider}
 use Rattle.witness_names.specs.Rows.{rows_of, AreRows}
 use Rattle.tableau_clauses.specs.Table.{Table, EachComes}
-use Rattle.rebuild_spec.specs.Input.{Instance, Sourced, start_unit, clause_by, literals_of}
+use Rattle.rebuild_spec.specs.Input.{Instance, Sourced, start_unit, clause_by}
 use Rattle.rebuild_spec.specs.Given.{IsClauseOf, IsRightClause, IsGiven}
 use Rattle.tableau_rebuild.specs.Tables.{atoms_at, the_sources, the_input, unit_literals}
 use Rattle.tableau_rebuild.specs.Conditions.{IsInstanceOver}
@@ -60,9 +58,7 @@ module _ (b : Content) (atoms : List ℕ) (t : Table) (log : List LogEntry) (wit
       let A = atoms_at b.terms atoms in
       let R = rows_of b.terms witnesses in
       let S = with_rows (content_scope b) R in
-      let rule = ap (λ o. unwrap_or o (False 0)) (sym h.over.is_rule) in
-      subst (IsClauseOf S R A c) h.same
-      (record { fits = subst (λ r. Rule S R r (literals_of A h.kept.principals) (map (literals_of A) h.kept.alternatives)) rule h.over.fits; is_one = h.is_one })
+      subst (IsClauseOf S R A c) h.same (record { fits = h.over.fits; is_one = h.is_one })
 
   clause_right : (n : ℕ) (x : Sourced) → slice_get (the_sources b.terms atoms t) n ≡ Some x → IsRightClause (content_scope b) (unit_literals (atoms_at b.terms atoms) t.0) (the_input b atoms t log witnesses) x
   clause_right n (start_unit l) h = unit_there (atoms_at b.terms atoms) t.0 n l (unit_clause b atoms t witnesses comes instances n l h)

@@ -2,7 +2,8 @@
 use Rattle.std.proofs.Common.{◌≡◌, ◌<◌, ◌≤◌, nat_lt, if◌then◌else◌, ℕ, suc, Bool, true, false, List, [], ◌∷◌, ◌++◌, length, Option, Some, slice_get, refl, sym, ap, ap₂, ◌∙◌, subst, arith}
 use Rattle.std.proofs.lemmas.Bool.{lt-ltb, ltb-true}
 use Rattle.stt_core.specs.Lambda.{Lambda}
-use Rattle.tableau_calculus.specs.declared.refutation.RuleUse.TheVariants.{Close as CloseRule}
+use Rattle.tableau_calculus.specs.declared.rule_use.RuleUse.TheVariants.{AtTwo}
+use Rattle.tableau_calculus.specs.declared.rule_use.TwoPlaces.TheVariants.{Close as CloseRule}
 use Rattle.sat_base.specs.declared.literal.Var.{Var}
 use Rattle.sat_base.specs.declared.literal.SatLit.{SatLit}
 use Rattle.tableau_clauses.specs.Table.{Table}
@@ -35,7 +36,7 @@ abbrev pub AreUnitsOf : Table → SatLit → SatLit → ℕ → ℕ → Type 0
 AreUnitsOf t l k m n = (terms : List Lambda) (atoms : List ℕ) → (l ≡ unit_of_start (slice_get (the_sources terms atoms t) m)) × (k ≡ unit_of_start (slice_get (the_sources terms atoms t) n))
 
 module _ (t : Table) (ds new : List Draft) (at : At) where
-  close_line : (l k : SatLit) → new ≡ ds ++ Close at l k ∷ [] → (terms : List Lambda) (atoms : List ℕ) → the_standing (the_sources terms atoms t) new (Line (length ds)) ≡ line (leaf (place_after_step at) (l ∷ k ∷ []) (CloseRule 0 1) [])
+  close_line : (l k : SatLit) → new ≡ ds ++ Close at l k ∷ [] → (terms : List Lambda) (atoms : List ℕ) → the_standing (the_sources terms atoms t) new (Line (length ds)) ≡ line (leaf (place_after_step at) (l ∷ k ∷ []) (AtTwo CloseRule 0 1) [])
   close_line l k e terms atoms = ap (λ x. line (fleshed (the_sources terms atoms t) x)) (close_tree new (length ds) at l k (pushed ds new (Close at l k) e))
 
   pub closed_in_order : (v : Var) (m n : ℕ) (l k : SatLit) (r s u : Standing) → s ≡ Start m → u ≡ Start n → m < n → new ≡ ds ++ Close at l k ∷ [] → r ≡ Line (length ds) → AreUnitsOf t l k m n → IsJoined t ds new (place_after_step at) v s u r
@@ -45,13 +46,13 @@ module _ (t : Table) (ds new : List Draft) (at : At) where
       (subst (IsJoined t ds new (place_after_step at) v (Start m) (Start n)) (sym last)
       (record { within = longer ds new (Close at l k) e; is = λ terms atoms. close_line l k e terms atoms ∙ ordered terms atoms })))
     where
-      ordered : (terms : List Lambda) (atoms : List ℕ) → line (leaf (place_after_step at) (l ∷ k ∷ []) (CloseRule 0 1) []) ≡ joined_standing (place_after_step at) v (the_standing (the_sources terms atoms t) ds (Start m)) (the_standing (the_sources terms atoms t) ds (Start n))
+      ordered : (terms : List Lambda) (atoms : List ℕ) → line (leaf (place_after_step at) (l ∷ k ∷ []) (AtTwo CloseRule 0 1) []) ≡ joined_standing (place_after_step at) v (the_standing (the_sources terms atoms t) ds (Start m)) (the_standing (the_sources terms atoms t) ds (Start n))
       ordered terms atoms =
           let lm = unit_of_start (slice_get (the_sources terms atoms t) m) in
           let ln = unit_of_start (slice_get (the_sources terms atoms t) n) in
           let both = units terms atoms in
-          ap₂ (λ x y. line (leaf (place_after_step at) (x ∷ y ∷ []) (CloseRule 0 1) [])) both.0 both.1
-          ∙ ap (λ (b : Bool). line (leaf (place_after_step at) (if b then lm ∷ ln ∷ [] else ln ∷ lm ∷ []) (CloseRule 0 1) [])) (sym (lt-ltb m n below))
+          ap₂ (λ x y. line (leaf (place_after_step at) (x ∷ y ∷ []) (AtTwo CloseRule 0 1) [])) both.0 both.1
+          ∙ ap (λ (b : Bool). line (leaf (place_after_step at) (if b then lm ∷ ln ∷ [] else ln ∷ lm ∷ []) (AtTwo CloseRule 0 1) [])) (sym (lt-ltb m n below))
 
   pub closed_turned : (v : Var) (m n : ℕ) (l k : SatLit) (r s u : Standing) → s ≡ Start m → u ≡ Start n → n ≤ m → new ≡ ds ++ Close at l k ∷ [] → r ≡ Line (length ds) → AreUnitsOf t l k n m → IsJoined t ds new (place_after_step at) v s u r
   closed_turned v m n l k r s u first second above e last units =
@@ -64,13 +65,13 @@ module _ (t : Table) (ds new : List Draft) (at : At) where
       not_below false e = e
       not_below true e = let below = ltb-true m n e in absurd (omega (arith, below, above))
 
-      ordered : (terms : List Lambda) (atoms : List ℕ) → line (leaf (place_after_step at) (l ∷ k ∷ []) (CloseRule 0 1) []) ≡ joined_standing (place_after_step at) v (the_standing (the_sources terms atoms t) ds (Start m)) (the_standing (the_sources terms atoms t) ds (Start n))
+      ordered : (terms : List Lambda) (atoms : List ℕ) → line (leaf (place_after_step at) (l ∷ k ∷ []) (AtTwo CloseRule 0 1) []) ≡ joined_standing (place_after_step at) v (the_standing (the_sources terms atoms t) ds (Start m)) (the_standing (the_sources terms atoms t) ds (Start n))
       ordered terms atoms =
           let lm = unit_of_start (slice_get (the_sources terms atoms t) m) in
           let ln = unit_of_start (slice_get (the_sources terms atoms t) n) in
           let both = units terms atoms in
-          ap₂ (λ x y. line (leaf (place_after_step at) (x ∷ y ∷ []) (CloseRule 0 1) [])) both.0 both.1
-          ∙ ap (λ (b : Bool). line (leaf (place_after_step at) (if b then lm ∷ ln ∷ [] else ln ∷ lm ∷ []) (CloseRule 0 1) [])) (sym (not_below (nat_lt m n) refl))
+          ap₂ (λ x y. line (leaf (place_after_step at) (x ∷ y ∷ []) (AtTwo CloseRule 0 1) [])) both.0 both.1
+          ∙ ap (λ (b : Bool). line (leaf (place_after_step at) (if b then lm ∷ ln ∷ [] else ln ∷ lm ∷ []) (AtTwo CloseRule 0 1) [])) (sym (not_below (nat_lt m n) refl))
 
   pub cut_joined : (v : Var) (off on : ℕ) (r s u : Standing) → s ≡ Line off → u ≡ Line on → off < length ds → on < length ds → new ≡ ds ++ Cut at v on off ∷ [] → r ≡ Line (length ds) → IsJoined t ds new (place_after_step at) v s u r
   cut_joined v off on r s u first second below above e last =

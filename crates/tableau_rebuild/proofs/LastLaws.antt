@@ -1,7 +1,6 @@
 -- The lines that the last one stands on can be written.
 use Rattle.std.proofs.Common.{◌≡◌, ◌-◌, ℕ, List, [], ◌∷◌, map, length, Option, Some, None, option_map, slice_get, slice_index_or, refl, sym, ap, ◌∙◌, subst, arith}
 use Rattle.std.proofs.lemmas.Option.{slice_get-map, slice_get_within}
-use Rattle.tableau_calculus.specs.declared.refutation.RuleUse.TheVariants.{False}
 use Rattle.sat_base.specs.declared.literal.SatLit.{SatLit}
 use Rattle.sat_base.specs.Literal.{IsOver}
 use Rattle.sat_log.specs.declared.log.LogEntry.{LogEntry}
@@ -15,7 +14,7 @@ use Rattle.rebuild_spec.specs.Lines.{walked, line_of, lines_from}
 use Rattle.rebuild_spec.proofs.ReachedLaws.{walked_all}
 use Rattle.rebuild_spec.proofs.StandsLaws.{one_stands}
 use Rattle.rebuild_spec.proofs.ExistsLaws.{empty_line}
-use Rattle.tableau_rebuild.specs.Tables.{atoms_at, the_sources, the_input}
+use Rattle.tableau_rebuild.specs.Tables.{no_rule, atoms_at, the_sources, the_input}
 use Rattle.tableau_rebuild.specs.Conditions.{EndsEmpty}
 use Rattle.tableau_rebuild.specs.declared.arena.Standing.{Standing}
 use Rattle.tableau_rebuild.specs.declared.arena.Standing.TheVariants.{Start}
@@ -63,7 +62,7 @@ module _ (b : Content) (atoms : List ℕ) (t : Table) (drafts : List Draft) (rig
     pub listed_over : (k i : ℕ) → slice_get order k ≡ Some i → IsOver (length atoms) (branch (the_tree b.terms atoms t drafts i))
     listed_over k i h = branch_over b atoms t (the_tree b.terms atoms t drafts i) (listed_founded k i h)
 
-    clause_founded : (n : ℕ) (o : Option Sourced) → IsFoundedLine b atoms t (clause_line n o (leaf (at_clause n) [] (False 0) [])) → (i : BankInstance) × IsClauseFrom b atoms t n i
+    clause_founded : (n : ℕ) (o : Option Sourced) → IsFoundedLine b atoms t (clause_line n o (leaf (at_clause n) [] no_rule [])) → (i : BankInstance) × IsClauseFrom b atoms t n i
     clause_founded n (Some (clause_by c i)) h = h.1
     clause_founded n (Some (start_unit l)) h = h.1
     clause_founded n None h = h.1

@@ -1,5 +1,4 @@
 pub mod PoolLaws
-mod CutLaws
 pub mod DraftLaws
 pub mod WalkSteps
 pub mod ArenaLaws

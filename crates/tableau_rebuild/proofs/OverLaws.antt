@@ -139,7 +139,7 @@ module _ (b : Content) (atoms : List ℕ) (t : Table) where
       number = h.number;
       step = h.step;
       instance = h.there;
-      good = record { rule = h.over.rule; is = h.over.is_rule; term = h.over.term; literal = h.over.first };
+      good = h.over.takes;
     }
 
     -- what stands for a clause is founded, and the clause is over the numbered atoms

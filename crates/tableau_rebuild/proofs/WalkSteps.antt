@@ -13,7 +13,7 @@ use Rattle.rebuild_spec.proofs.LastLaws.{walk_ordered}
 use Rattle.rebuild_spec.proofs.SkipLaws.{Task as Step, visit, list, run as run_steps, run_passes}
 use Rattle.sat_base.specs.declared.literal.Var.{Var}
 use Rattle.sat_base.specs.declared.literal.SatLit.{SatLit}
-use Rattle.tableau_calculus.specs.declared.refutation.RuleUse.{RuleUse}
+use Rattle.tableau_calculus.specs.Rules.{PlainRule}
 use Rattle.tableau_calculus.specs.declared.refutation.Child.{Child}
 use Rattle.tableau_rebuild.specs.declared.draft.At.{At}
 use Rattle.tableau_rebuild.specs.declared.draft.Draft.{Draft}
@@ -119,7 +119,7 @@ module _ (drafts : List Draft) (right : AreDrafts drafts) (last : ℕ) where
         less = omega (arith, some);
       }
 
-  visit_alone : (listed : List Bool) (order : List ℕ) (tasks : List Task) (i : ℕ) (p : Place) (ls : List SatLit) (rule : RuleUse) (children : List Child) → IsWalkUnderWay drafts last listed order (Visit i ∷ tasks) → tree_at ts i ≡ leaf p ls rule children → Leaves listed order i tasks (Enter i ∷ tasks)
+  visit_alone : (listed : List Bool) (order : List ℕ) (tasks : List Task) (i : ℕ) (p : Place) (ls : List SatLit) (rule : PlainRule) (children : List Child) → IsWalkUnderWay drafts last listed order (Visit i ∷ tasks) → tree_at ts i ≡ leaf p ls rule children → Leaves listed order i tasks (Enter i ∷ tasks)
   visit_alone listed order tasks i p ls rule children way tree =
       let inside = All-head (λ t. task_number t < length drafts) (Visit i) tasks way.in_range in
       let rest = All-tail (λ t. task_number t < length drafts) (Visit i) tasks way.in_range in

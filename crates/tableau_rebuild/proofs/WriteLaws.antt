@@ -2,7 +2,6 @@
 use Rattle.std.proofs.Common.{◌≡◌, ◌<◌, ℕ, zero, suc, List, [], ◌∷◌, map, length, take, Some, option_map, unwrap_or, slice_get, slice_index_or, refl, sym, ap, ap₂, ◌∙◌, arith}
 use Rattle.std.proofs.lemmas.List.{length-map}
 use Rattle.std.proofs.lemmas.Option.{slice_get-map, slice_get_within}
-use Rattle.tableau_calculus.specs.declared.refutation.RuleUse.TheVariants.{False}
 use Rattle.tableau_calculus.specs.declared.refutation.Line.{Line}
 use Rattle.sat_base.specs.declared.literal.Var.{Var}
 use Rattle.sat_base.specs.declared.literal.SatLit.{SatLit}
@@ -16,7 +15,7 @@ use Rattle.rebuild_spec.specs.Input.{clause_by}
 use Rattle.rebuild_spec.specs.Trees.{at_clause, leaf, cut, branch}
 use Rattle.rebuild_spec.specs.Stands.{instance_line}
 use Rattle.rebuild_spec.specs.Lines.{walked, line_number_in, line_of}
-use Rattle.tableau_rebuild.specs.Tables.{no_instance, atoms_at, the_instance, sourced, the_sources}
+use Rattle.tableau_rebuild.specs.Tables.{no_rule, no_instance, atoms_at, the_instance, sourced, the_sources}
 use Rattle.tableau_rebuild.specs.declared.draft.At.{At}
 use Rattle.tableau_rebuild.specs.declared.draft.Draft.{Draft}
 use Rattle.tableau_rebuild.specs.declared.draft.Draft.TheVariants.{Clause, Close, Cut}
@@ -54,7 +53,7 @@ module _ (b : Content) (atoms : List ℕ) (t : Table) (drafts : List Draft) wher
 
   clause_here : (n j : ℕ) (i : BankInstance) (h : IsClauseFrom b atoms t n i) → slice_get drafts j ≡ Some (Clause n) → the_tree b.terms atoms t drafts j ≡ instance_line n h.clause (the_instance b.terms atoms i)
   clause_here n j i h drafted =
-      ap (fleshed (the_sources b.terms atoms t)) (clause_tree drafts j n drafted) ∙ ap (λ o. clause_line n o (leaf (at_clause n) [] (False 0) [])) (source_of n i h)
+      ap (fleshed (the_sources b.terms atoms t)) (clause_tree drafts j n drafted) ∙ ap (λ o. clause_line n o (leaf (at_clause n) [] no_rule [])) (source_of n i h)
 
   clause_literals : (n : ℕ) (i : BankInstance) (h : IsClauseFrom b atoms t n i) → slice_index_or (the_clauses t) n [] ≡ h.clause
   clause_literals n i h = got_default (the_clauses t) n [] h.clause (slice_get-map (λ (s : Step). s.0) t.0 n ∙ ap (option_map (λ (s : Step). s.0)) h.step)

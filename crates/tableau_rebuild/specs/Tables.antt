@@ -2,7 +2,9 @@
 use Rattle.std.specs.Prelude.{false, ℕ, List, [], ◌∷◌, ◌++◌, map, get_or, slice_get, option_map, unwrap_or}
 use Rattle.stt_core.specs.Lambda.{Lambda}
 use Rattle.tableau_calculus.specs.Literals.{Literal}
-use Rattle.tableau_calculus.specs.declared.refutation.RuleUse.TheVariants.{False}
+use Rattle.tableau_calculus.specs.Rules.{PlainRule}
+use Rattle.tableau_calculus.specs.declared.rule_use.RuleUse.TheVariants.{AtOne}
+use Rattle.tableau_calculus.specs.declared.rule_use.OnePlace.TheVariants.{False}
 use Rattle.sat_base.specs.declared.literal.SatLit.{SatLit}
 use Rattle.sat_log.specs.declared.log.LogEntry.{LogEntry}
 use Rattle.term_bank.specs.Content.{Content}
@@ -20,10 +22,14 @@ abbrev pub atoms_at : List Lambda → List ℕ → List Lambda
 atoms_at terms atoms = map (term_at terms) atoms
 
 abbrev pub the_instance : List Lambda → List ℕ → BankInstance → Instance
-the_instance terms atoms i = record { rule = unwrap_or (use_of terms atoms i.by) (False 0); principals = i.principals; alternatives = i.alternatives }
+the_instance terms atoms i = record { rule = use_of terms atoms i.by; principals = i.principals; alternatives = i.alternatives }
+
+-- a rule where there is none
+abbrev pub no_rule : PlainRule
+no_rule = AtOne False 0
 
 abbrev pub no_instance : Instance
-no_instance = record { rule = False 0; principals = []; alternatives = [] }
+no_instance = record { rule = no_rule; principals = []; alternatives = [] }
 
 abbrev pub no_literal : SatLit
 no_literal = record { var = record { 0 = 0 }; positive = false }

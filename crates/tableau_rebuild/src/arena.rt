@@ -2,6 +2,7 @@
 ghost use Rattle.std.specs.Prelude.{◌≡◌, ◌<◌, ◌++◌, ℕ, List, suc, [], ◌∷◌, length, replicate, Some, None, slice_get, IfOk, OnOk};
 ghost use Rattle.stt_core.specs.Lambda.{Lambda};
 ghost use Rattle.sat_base.specs.declared.literal.SatLit.{SatLit};
+ghost use Rattle.sat_log.specs.declared.chain.Premise.TheVariants.{Clause as ClausePremise};
 ghost use Rattle.sat_log.specs.declared.log.LogEntry.{LogEntry};
 ghost use Rattle.sat_log.specs.Chains.{premise_clause, results, IsLogOver};
 ghost use Rattle.tableau_clauses.specs.Table.{the_clauses};
@@ -34,23 +35,44 @@ pub(crate) struct Arena {
     pub(crate) of_result: Vec<Standing>,
 }
 
-/// The clause that a premise names.
-fn clause_of<'a>(steps: &'a StepTable, log: &'a Log, premise: Premise) -> &'a Clause
-    requires { IsThere (length (the_clauses steps.now)) (length log.now) premise }
+/// A copy of the clause that a premise names, where it names a clause.
+fn copied(steps: &StepTable, premise: Premise) -> Result<Option<Clause>, AllocError>
+    requires { (results : ℕ) × IsThere (length (the_clauses steps.now)) results premise }
+    ensures { IfOk result (λ copy. (n : ℕ) → premise ≡ ClausePremise n → copy ≡ slice_get (the_clauses steps.now) n) }
+{
+    match premise {
+        Premise::Clause(n) => Ok(Some(steps.clause(n)?)),
+        Premise::Result(_) => Ok(None),
+    }
+}
+
+/// The literals of what a premise names, where a clause that it names was copied.
+fn literals_of<'a>(
+    steps: &StepTable,
+    log: &'a Log,
+    premise: Premise,
+    copy: &'a Option<Clause>,
+) -> &'a [SatLit]
+    requires there { IsThere (length (the_clauses steps.now)) (length log.now) premise }
+    requires copied { (n : ℕ) → premise ≡ ClausePremise n → copy.now ≡ slice_get (the_clauses steps.now) n }
     ensures { premise_clause (the_clauses steps.now) (results log.now) premise ≡ Some result.now }
 {
     match premise {
-        Premise::Clause(n) => steps.clause(n),
-        Premise::Result(n) => log.result(n),
+        Premise::Clause(_) => match copy {
+            Some(clause) => clause.as_slice(),
+            None => unreachable!(),
+        },
+        Premise::Result(n) => log.result(n).as_slice(),
     }
 }
 
 /// The literal of a start unit.
-fn unit(steps: &StepTable, n: usize) -> SatLit
+fn unit(steps: &StepTable, n: usize) -> Result<SatLit, AllocError>
     requires { IsUnitNumber steps.now n }
-    ensures { (terms : List Lambda) (atoms : List ℕ) → result ≡ unit_of_start (slice_get (the_sources terms atoms steps.now) n) }
+    ensures { IfOk result (λ l. (terms : List Lambda) (atoms : List ℕ) → l ≡ unit_of_start (slice_get (the_sources terms atoms steps.now) n)) }
 {
-    steps.clause(n).as_slice()[0]
+    let clause = steps.clause(n)?;
+    Ok(clause.as_slice()[0])
 }
 
 impl Arena {
@@ -130,7 +152,7 @@ impl Arena {
         ensures of_result { self.new.of_result.items ≡ self.old.of_result.items }
         ensures last { IfOk result (λ s. s ≡ Line (length self.old.drafts.items)) }
     {
-        let draft = Draft::Close(at, unit(steps, first), unit(steps, second));
+        let draft = Draft::Close(at, unit(steps, first)?, unit(steps, second)?);
         Ok(Standing::Line(self.push(draft)?))
     }
 
@@ -196,7 +218,8 @@ impl Arena {
         ensures chained { IfOk result (λ s. IsChained steps.now log.now self.new.drafts.items at.result (suc at.step) resolver.new s) }
     {
         let other = self.premise(steps, log, step.premise)?;
-        let literals = clause_of(steps, log, step.premise).as_slice();
+        let copy = copied(steps, step.premise)?;
+        let literals = literals_of(steps, log, step.premise, &copy);
         let positive = SatLit {
             var: step.var,
             positive: true,
@@ -236,7 +259,8 @@ impl Arena {
     {
         let chain = log.chain(n);
         let mut standing = self.premise(steps, log, chain.first)?;
-        resolver.start(clause_of(steps, log, chain.first).as_slice())?;
+        let copy = copied(steps, chain.first)?;
+        resolver.start(literals_of(steps, log, chain.first, &copy))?;
         let chain_steps = chain.steps.as_slice();
         for k in 0..chain_steps.len() {
             let at = At { result: n, step: k };

@@ -74,7 +74,10 @@ pub(crate) fn branch_of(
     ensures empty { OnOk result (resolver.new.resolver ≡ []) }
 {
     match draft {
-        Draft::Clause(n) => Ok(negations(alloc, steps.clause(n).as_slice())?),
+        Draft::Clause(n) => {
+            let clause = steps.clause(n)?;
+            Ok(negations(alloc, clause.as_slice())?)
+        }
         Draft::Close(_, first, second) => Ok(pair(alloc, first, second)?),
         Draft::Cut(_, var, on, off) => {
             let holds = &branches[numbers[on]];

@@ -6,7 +6,7 @@ ghost use Rattle.refute_share.specs.RuleView.{the_rule_use};
 ghost use Rattle.small_rebuilt.specs.Small.{HasPlaces, HasNumbers};
 
 use refute_share::{SharedLine, SharedRule};
-use tableau_calculus::{Child, Children};
+use tableau_calculus::{Child, Children, RuleUse};
 
 /// A place's number is in range.
 fn place_in_range(_place: usize)
@@ -18,32 +18,14 @@ fn rule_in_range(rule: &SharedRule)
     ensures { HasPlaces (the_rule_use rule.now) }
 {
     match rule {
-        SharedRule::False(i) => place_in_range(*i),
-        SharedRule::Close(i, j) => {
+        RuleUse::AtOne(_, i) => place_in_range(*i),
+        RuleUse::AtTwo(_, i, j) => {
             place_in_range(*i);
             place_in_range(*j);
         }
-        SharedRule::Refl(i) => place_in_range(*i),
-        SharedRule::ImpPos(i) => place_in_range(*i),
-        SharedRule::ImpNeg(i) => place_in_range(*i),
-        SharedRule::BoolPos(i) => place_in_range(*i),
-        SharedRule::BoolNeg(i) => place_in_range(*i),
-        SharedRule::FunPos(i) => place_in_range(*i),
-        SharedRule::FunNeg(i) => place_in_range(*i),
-        SharedRule::AllPos(i, _) => place_in_range(*i),
-        SharedRule::AllNeg(i) => place_in_range(*i),
-        SharedRule::Mat(i, j) => {
-            place_in_range(*i);
-            place_in_range(*j);
-        }
-        SharedRule::Dec(i) => place_in_range(*i),
-        SharedRule::Con(i, j) => {
-            place_in_range(*i);
-            place_in_range(*j);
-        }
-        SharedRule::Cho(_) => {}
-        SharedRule::Des(_) => {}
-        SharedRule::Cut(_) => {}
+        RuleUse::AllPos(i, _) => place_in_range(*i),
+        RuleUse::WithPredicate(_, _) => {}
+        RuleUse::Cut(_) => {}
     }
 }
 

@@ -1,16 +1,13 @@
 //! Lines.
-ghost use Rattle.std.specs.Prelude.{◌≡◌, ◌<◌, [], ◌∷◌, length, map, Some, IsSome, IfSome, IfOk, OnOk, All, unwrap_or};
+ghost use Rattle.std.specs.Prelude.{◌≡◌, [], ◌∷◌, length, map, IfOk, OnOk, All};
 ghost use Rattle.sat_base.specs.Literal.{IsOver};
-ghost use Rattle.tableau_calculus.specs.declared.refutation.RuleUse.{RuleUse};
 ghost use Rattle.refute_share.specs.RuleView.{the_rule_use};
 ghost use Rattle.tableau_calculus.specs.declared.refutation.Child.TheVariants.{Closed, Line as Numbered};
-ghost use Rattle.search_spec.specs.Numbered.{literal_at};
-ghost use Rattle.term_bank.specs.Terms.{term_at};
 ghost use Rattle.literal_map.specs.Atoms.{IsAtom};
 ghost use Rattle.rebuild_spec.specs.Input.{literals_of};
 ghost use Rattle.rebuild_spec.specs.Stands.{rule_at_places, place_in};
 ghost use Rattle.tableau_rules.specs.Uses.{use_of};
-ghost use Rattle.tableau_rebuild.specs.Tables.{no_literal, atoms_at, the_instance};
+ghost use Rattle.tableau_rebuild.specs.Tables.{atoms_at, the_instance};
 ghost use Rattle.tableau_rebuild.specs.Conditions.{IsGoodUse};
 ghost use Rattle.tableau_rebuild.specs.Internal.LineParts.{first_in, left_in, right_in, instance_by, IsMakeable, IsLineBy};
 ghost use Rattle.tableau_rebuild.specs.Pools.{IsMadePool};
@@ -18,12 +15,11 @@ ghost use Rattle.tableau_rebuild.specs.Pools.{IsMadePool};
 use crate::draft::Draft;
 use crate::literals::{lits_of, position};
 use crate::pool::Pool;
-use literal_map::{BankUse, Instance, LitList, LitLists, LitTable, RuleKind};
-use refute_share::{SharedLine, SharedLit, SharedLits, SharedRule, SharedTerm};
+use literal_map::{BankUse, Instance, LitList, LitLists, LitTable};
+use refute_share::{SharedLine, SharedLits, SharedRule};
 use sat_base::SatLit;
 use std::alloc::{AllocError, Global};
-use std::rc::Rc;
-use tableau_calculus::{Child, Children};
+use tableau_calculus::{Child, Children, RuleUse, TwoPlaces};
 use tableau_clauses::{Origin, StepTable};
 use term_bank::Bank;
 
@@ -48,45 +44,6 @@ fn right_of(places: &[usize]) -> usize
     if places.len() < 2 { 1 } else { places[1] }
 }
 
-/// The term that a rule takes.
-fn term_of(
-    bank: &Bank,
-    atoms: &LitTable,
-    by: &BankUse,
-    pool: &mut Pool,
-) -> Result<Rc<SharedTerm>, AllocError>
-    requires some { IsSome by.now.term }
-    requires within { IfSome by.now.term (λ u. u < length bank.now.terms) }
-    requires made { IsMadePool bank.now.terms atoms.now pool.old }
-    ensures made { OnOk result (IsMadePool bank.now.terms atoms.now pool.new) }
-    ensures term { IfOk result (λ u. u.value ≡ term_at bank.now.terms (unwrap_or by.now.term 0)) }
-{
-    match by.term {
-        Some(id) => Ok(pool.term(bank, atoms, id)?),
-        None => unreachable!(),
-    }
-}
-
-/// The literal that a cut takes.
-fn cut_literal(
-    bank: &Bank,
-    atoms: &LitTable,
-    by: &BankUse,
-    pool: &mut Pool,
-) -> Result<SharedLit, AllocError>
-    requires atoms { All (IsAtom bank.now) atoms.now }
-    requires some { IsSome by.now.first }
-    requires within { IfSome by.now.first (λ l. l.var.0 < length atoms.now) }
-    requires made { IsMadePool bank.now.terms atoms.now pool.old }
-    ensures made { OnOk result (IsMadePool bank.now.terms atoms.now pool.new) }
-    ensures literal { IfOk result (λ l. l ≡ literal_at (atoms_at bank.now.terms atoms.now) (unwrap_or by.now.first no_literal)) }
-{
-    match by.first {
-        Some(literal) => Ok(pool.lit(bank, atoms, literal)?),
-        None => unreachable!(),
-    }
-}
-
 /// The rule with the places of its principals.
 pub fn rule_of(
     bank: &Bank,
@@ -99,41 +56,22 @@ pub fn rule_of(
     requires good { IsGoodUse bank.now atoms.now by.now }
     requires made { IsMadePool bank.now.terms atoms.now pool.old }
     ensures made { OnOk result (IsMadePool bank.now.terms atoms.now pool.new) }
-    ensures rule { IfOk result (λ rule. (use' : RuleUse) → use_of bank.now.terms atoms.now by.now ≡ Some use' → the_rule_use rule ≡ rule_at_places use' places.now) }
+    ensures rule { IfOk result (λ rule. the_rule_use rule ≡ rule_at_places (use_of bank.now.terms atoms.now by.now) places.now) }
 {
-    let first = first_of(places);
-    let left = left_of(places);
-    let right = right_of(places);
-    match by.kind {
-        RuleKind::False => Ok(SharedRule::False(first)),
-        RuleKind::Close => Ok(SharedRule::Close(left, right)),
-        RuleKind::Refl => Ok(SharedRule::Refl(first)),
-        RuleKind::ImpPos => Ok(SharedRule::ImpPos(first)),
-        RuleKind::ImpNeg => Ok(SharedRule::ImpNeg(first)),
-        RuleKind::BoolPos => Ok(SharedRule::BoolPos(first)),
-        RuleKind::BoolNeg => Ok(SharedRule::BoolNeg(first)),
-        RuleKind::FunPos => Ok(SharedRule::FunPos(first)),
-        RuleKind::FunNeg => Ok(SharedRule::FunNeg(first)),
-        RuleKind::AllPos => {
-            let term = term_of(bank, atoms, by, pool)?;
-            Ok(SharedRule::AllPos(first, term))
+    match by {
+        RuleUse::AtOne(kind, _) => Ok(RuleUse::AtOne(*kind, first_of(places))),
+        RuleUse::AtTwo(kind, _, _) => {
+            Ok(RuleUse::AtTwo(*kind, left_of(places), right_of(places)))
         }
-        RuleKind::AllNeg => Ok(SharedRule::AllNeg(first)),
-        RuleKind::Mat => Ok(SharedRule::Mat(left, right)),
-        RuleKind::Dec => Ok(SharedRule::Dec(first)),
-        RuleKind::Con => Ok(SharedRule::Con(left, right)),
-        RuleKind::Cho => {
-            let term = term_of(bank, atoms, by, pool)?;
-            Ok(SharedRule::Cho(term))
+        RuleUse::AllPos(_, term) => {
+            let term = pool.term(bank, atoms, *term)?;
+            Ok(RuleUse::AllPos(first_of(places), term))
         }
-        RuleKind::Des => {
-            let term = term_of(bank, atoms, by, pool)?;
-            Ok(SharedRule::Des(term))
+        RuleUse::WithPredicate(kind, predicate) => {
+            let predicate = pool.term(bank, atoms, *predicate)?;
+            Ok(RuleUse::WithPredicate(*kind, predicate))
         }
-        RuleKind::Cut => {
-            let literal = cut_literal(bank, atoms, by, pool)?;
-            Ok(SharedRule::Cut(literal))
-        }
+        RuleUse::Cut(literal) => Ok(RuleUse::Cut(pool.lit(bank, atoms, *literal)?)),
     }
 }
 
@@ -229,7 +167,7 @@ pub(crate) fn line_of(
         },
         Draft::Close(_, _, _) => Ok(SharedLine {
             branch: literals,
-            rule: SharedRule::Close(0, 1),
+            rule: RuleUse::AtTwo(TwoPlaces::Close, 0, 1),
             children: Children::new(alloc),
         }),
         Draft::Cut(_, var, on, off) => {
@@ -237,7 +175,7 @@ pub(crate) fn line_of(
                 var,
                 positive: true,
             };
-            let rule = SharedRule::Cut(pool.lit(bank, atoms, positive)?);
+            let rule = RuleUse::Cut(pool.lit(bank, atoms, positive)?);
             let children = two_lines(alloc, numbers[on], numbers[off])?;
             Ok(SharedLine {
                 branch: literals,

@@ -1,9 +1,9 @@
 //! How many rows of the witness table lines need.
-ghost use Rattle.std.specs.Prelude.{◌≡◌, ◌<◌, ◌^◌, ℕ, List, max, length, map, Some, IsSome, IfSome, IfOk, All, slice_get, unwrap_or};
+ghost use Rattle.std.specs.Prelude.{◌≡◌, ◌<◌, ◌^◌, ℕ, List, max, length, map, IfOk, All, slice_get};
 ghost use Rattle.std.specs.List.{position_or_len};
 ghost use Rattle.stt_core.specs.SameTerm.{same_term};
 ghost use Rattle.stt_core.specs.View.{the_head};
-ghost use Rattle.tableau_calculus.specs.declared.refutation.RuleUse.{RuleUse};
+ghost use Rattle.tableau_calculus.specs.declared.rule_use.RuleUse.TheVariants.{AtOne};
 ghost use Rattle.tableau_calculus.specs.declared.refutation.Line.{Line};
 ghost use Rattle.sat_base.specs.Literal.{IsOver};
 ghost use Rattle.search_spec.specs.Numbered.{literal_at};
@@ -14,17 +14,18 @@ ghost use Rattle.rebuild_spec.specs.Input.{literals_of};
 ghost use Rattle.rebuild_spec.specs.NeededRows.{rows_for, rows_for_all, rows_for_rule, rows_up_to, rows_up_to_principal};
 ghost use Rattle.rebuild_spec.specs.Stands.{rule_at_places, place_in};
 ghost use Rattle.tableau_rules.specs.Uses.{use_of};
-ghost use Rattle.tableau_rebuild.specs.Tables.{no_literal, atoms_at, the_instance};
+ghost use Rattle.tableau_rebuild.specs.Tables.{atoms_at, the_instance};
 ghost use Rattle.tableau_rebuild.specs.Conditions.{IsGoodUse};
 ghost use Rattle.tableau_rebuild.specs.Internal.LineParts.{first_in, IsLineBy};
 ghost use Rattle.tableau_rebuild.specs.Internal.Needed.{is_quantifier, HasParts};
 
 use crate::draft::Draft;
 use crate::literals::position;
-use literal_map::{BankUse, Instance, LitList, LitTable, RuleKind};
+use literal_map::{BankUse, Instance, LitList, LitTable};
 use sat_base::SatLit;
 use std::alloc::AllocError;
 use stt_core::Head;
+use tableau_calculus::{OnePlace, RuleUse};
 use tableau_clauses::{Origin, StepTable};
 use term_bank::{Bank, Id, Node, equal_ids_for_equal_terms};
 use witness_names::Witnesses;
@@ -135,28 +136,23 @@ fn rows_up_to_principal(
     }
 }
 
-/// How many rows have to be there for the term that a rule takes.
-fn rows_for_taken(bank: &Bank, term: Option<Id>) -> usize
-    requires some { IsSome term }
-    requires within { IfSome term (λ u. u < length bank.now.terms) }
-    ensures { result ≡ rows_for (term_at bank.now.terms (unwrap_or term 0)) }
-{
-    match term {
-        Some(id) => rows_for_term(bank, id),
-        None => unreachable!(),
-    }
-}
-
-/// How many rows have to be there for the literal that a rule takes.
-fn rows_for_cut(bank: &Bank, atoms: &LitTable, literal: Option<SatLit>) -> usize
+/// How many rows have to be there for a rule with one principal, which stands at this place of the branch.
+fn rows_for_one(
+    bank: &Bank,
+    atoms: &LitTable,
+    witnesses: &Witnesses,
+    kind: OnePlace,
+    branch: &[SatLit],
+    place: usize,
+) -> usize
     requires atoms { All (IsAtom bank.now) atoms.now }
-    requires some { IsSome literal }
-    requires within { IfSome literal (λ l. l.var.0 < length atoms.now) }
-    ensures { result ≡ rows_for (literal_at (atoms_at bank.now.terms atoms.now) (unwrap_or literal no_literal)).atom }
+    requires numbered { IsOver (length atoms.now) branch.now }
+    requires rows { AreRows bank.now witnesses.now }
+    ensures { result ≡ rows_for_rule (rows_of bank.now.terms witnesses.now) (literals_of (atoms_at bank.now.terms atoms.now) branch.now) (AtOne kind place) }
 {
-    match literal {
-        Some(literal) => rows_for_literal(bank, atoms, literal),
-        None => unreachable!(),
+    match kind {
+        OnePlace::AllNeg => rows_up_to_principal(bank, atoms, witnesses, branch, place),
+        _ => 0,
     }
 }
 
@@ -173,26 +169,14 @@ fn rows_for_use(
     requires numbered { IsOver (length atoms.now) branch.now }
     requires rows { AreRows bank.now witnesses.now }
     requires good { IsGoodUse bank.now atoms.now by.now }
-    ensures { (use' : RuleUse) (places : List ℕ) → use_of bank.now.terms atoms.now by.now ≡ Some use' → first_in places ≡ place → result ≡ rows_for_rule (rows_of bank.now.terms witnesses.now) (literals_of (atoms_at bank.now.terms atoms.now) branch.now) (rule_at_places use' places) }
+    ensures { (places : List ℕ) → first_in places ≡ place → result ≡ rows_for_rule (rows_of bank.now.terms witnesses.now) (literals_of (atoms_at bank.now.terms atoms.now) branch.now) (rule_at_places (use_of bank.now.terms atoms.now by.now) places) }
 {
-    match by.kind {
-        RuleKind::False => 0,
-        RuleKind::Close => 0,
-        RuleKind::Refl => 0,
-        RuleKind::ImpPos => 0,
-        RuleKind::ImpNeg => 0,
-        RuleKind::BoolPos => 0,
-        RuleKind::BoolNeg => 0,
-        RuleKind::FunPos => 0,
-        RuleKind::FunNeg => 0,
-        RuleKind::AllPos => rows_for_taken(bank, by.term),
-        RuleKind::AllNeg => rows_up_to_principal(bank, atoms, witnesses, branch, place),
-        RuleKind::Mat => 0,
-        RuleKind::Dec => 0,
-        RuleKind::Con => 0,
-        RuleKind::Cho => rows_for_taken(bank, by.term),
-        RuleKind::Des => rows_for_taken(bank, by.term),
-        RuleKind::Cut => rows_for_cut(bank, atoms, by.first),
+    match by {
+        RuleUse::AtOne(kind, _) => rows_for_one(bank, atoms, witnesses, *kind, branch, place),
+        RuleUse::AtTwo(_, _, _) => 0,
+        RuleUse::AllPos(_, term) => rows_for_term(bank, *term),
+        RuleUse::WithPredicate(_, predicate) => rows_for_term(bank, *predicate),
+        RuleUse::Cut(literal) => rows_for_literal(bank, atoms, *literal),
     }
 }
 

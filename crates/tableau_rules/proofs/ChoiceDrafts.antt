@@ -6,7 +6,8 @@ use Rattle.normal_forms.specs.Normal.{eta, apply}
 use Rattle.tableau_calculus.specs.Literals.{as_literal, opposite}
 use Rattle.tableau_calculus.specs.Witnesses.{Row}
 use Rattle.tableau_calculus.specs.Rules.{IsInstance, chosen, nowhere, at_most_once, described}
-use Rattle.tableau_calculus.specs.declared.refutation.RuleUse.TheVariants.{Cho, Des}
+use Rattle.tableau_calculus.specs.declared.rule_use.OfPredicate.TheVariants.{Cho, Des}
+use Rattle.tableau_calculus.specs.declared.rule_use.RuleUse.TheVariants.{WithPredicate}
 use Rattle.tableau_calculus.proofs.InstanceLaws.{cho_is, des_is, fits}
 use Rattle.term_bank.specs.Content.{Content, content_scope, HasTerm, Grows}
 use Rattle.term_bank.specs.Terms.{term_at}
@@ -16,11 +17,11 @@ use Rattle.tableau_rules.specs.Internal.Drafted.{alternatives_at, Drafted}
 use Rattle.tableau_rules.specs.declared.draft.Signed.{Signed}
 use Rattle.tableau_rules.proofs.DraftLaws.{yes, nay}
 
-pub cho_none : (b : Content) (rows : List Row) (f : ℕ) → IsPredicateType b f None → Drafted b rows [] (Cho (term_at b.terms f)) None
-cho_none b rows f none = λ as' h. let g = fits (content_scope b) rows (Cho (term_at b.terms f)) h.principals as' h.fits in none g.0 g.1
+pub cho_none : (b : Content) (rows : List Row) (f : ℕ) → IsPredicateType b f None → Drafted b rows [] (WithPredicate Cho (term_at b.terms f)) None
+cho_none b rows f none = λ as' h. let g = fits (content_scope b) rows (WithPredicate Cho (term_at b.terms f)) h.principals as' h.fits in none g.0 g.1
 
-pub des_none : (b : Content) (rows : List Row) (f : ℕ) → IsPredicateType b f None → Drafted b rows [] (Des (term_at b.terms f)) None
-des_none b rows f none = λ as' h. let g = fits (content_scope b) rows (Des (term_at b.terms f)) h.principals as' h.fits in none g.0 g.1
+pub des_none : (b : Content) (rows : List Row) (f : ℕ) → IsPredicateType b f None → Drafted b rows [] (WithPredicate Des (term_at b.terms f)) None
+des_none b rows f none = λ as' h. let g = fits (content_scope b) rows (WithPredicate Des (term_at b.terms f)) h.principals as' h.fits in none g.0 g.1
 
 -- what an operator gives for a predicate, over an earlier bank
 pub picked_back : (C : SimpleType → Constant) (b c e : Content) (a x : SimpleType) (f v : ℕ) → Grows b c → f < length b.terms → x ≡ a → HasTerm e v (apply (term_at c.terms f) (eta a (app (constant (C x)) (term_at c.terms f)))) → HasTerm e v (apply (term_at b.terms f) (eta a (app (constant (C a)) (term_at b.terms f))))
@@ -30,22 +31,22 @@ module _ (b e : Content) (rows : List Row) (a : SimpleType) (f : ℕ) (g : Grows
   first_is : as_literal (term_at e.terms n) ≡ as_literal (nowhere a (term_at b.terms f))
   first_is = ap as_literal (has_at e n (nowhere a (term_at b.terms f)) none)
 
-  pub cho_found : HasTerm e v (apply (term_at b.terms f) (chosen a (term_at b.terms f))) → (ds : List (List Signed)) → ds ≡ (yes n ∷ []) ∷ (yes v ∷ []) ∷ [] → Drafted e rows [] (Cho (term_at b.terms f)) (Some ds)
+  pub cho_found : HasTerm e v (apply (term_at b.terms f) (chosen a (term_at b.terms f))) → (ds : List (List Signed)) → ds ≡ (yes n ∷ []) ∷ (yes v ∷ []) ∷ [] → Drafted e rows [] (WithPredicate Cho (term_at b.terms f)) (Some ds)
   cho_found holds ds w =
       let second = ap as_literal (has_at e v (apply (term_at b.terms f) (chosen a (term_at b.terms f))) holds) in
-      subst (λ l. Drafted e rows [] (Cho (term_at b.terms f)) (Some l)) (sym w) (
+      subst (λ l. Drafted e rows [] (WithPredicate Cho (term_at b.terms f)) (Some l)) (sym w) (
         ((has_within e n (nowhere a (term_at b.terms f)) none, tt), ((has_within e v (apply (term_at b.terms f) (chosen a (term_at b.terms f))) holds, tt), tt)),
-        subst (λ s. IsInstance s rows [] (Cho (term_at b.terms f)) (alternatives_at e ((yes n ∷ []) ∷ (yes v ∷ []) ∷ []))) (sym (grown_scope b e g))
+        subst (λ s. IsInstance s rows [] (WithPredicate Cho (term_at b.terms f)) (alternatives_at e ((yes n ∷ []) ∷ (yes v ∷ []) ∷ []))) (sym (grown_scope b e g))
             (cho_is (content_scope b) rows [] a (term_at b.terms f) (alternatives_at e ((yes n ∷ []) ∷ (yes v ∷ []) ∷ [])) p.predicate_in (ap₂ (λ x y. (x ∷ []) ∷ (y ∷ []) ∷ []) first_is second)),
       )
 
-  pub des_found : (m : ℕ) → HasTerm e m (at_most_once a (term_at b.terms f)) → HasTerm e v (apply (term_at b.terms f) (described a (term_at b.terms f))) → (ds : List (List Signed)) → ds ≡ (yes n ∷ []) ∷ (nay m ∷ []) ∷ (yes v ∷ []) ∷ [] → Drafted e rows [] (Des (term_at b.terms f)) (Some ds)
+  pub des_found : (m : ℕ) → HasTerm e m (at_most_once a (term_at b.terms f)) → HasTerm e v (apply (term_at b.terms f) (described a (term_at b.terms f))) → (ds : List (List Signed)) → ds ≡ (yes n ∷ []) ∷ (nay m ∷ []) ∷ (yes v ∷ []) ∷ [] → Drafted e rows [] (WithPredicate Des (term_at b.terms f)) (Some ds)
   des_found m once holds ds w =
       let second = ap (λ t. opposite (as_literal t)) (has_at e m (at_most_once a (term_at b.terms f)) once) in
       let third = ap as_literal (has_at e v (apply (term_at b.terms f) (described a (term_at b.terms f))) holds) in
-      subst (λ l. Drafted e rows [] (Des (term_at b.terms f)) (Some l)) (sym w) (
+      subst (λ l. Drafted e rows [] (WithPredicate Des (term_at b.terms f)) (Some l)) (sym w) (
         ((has_within e n (nowhere a (term_at b.terms f)) none, tt), ((has_within e m (at_most_once a (term_at b.terms f)) once, tt), ((has_within e v (apply (term_at b.terms f) (described a (term_at b.terms f))) holds, tt), tt))),
-        subst (λ s. IsInstance s rows [] (Des (term_at b.terms f)) (alternatives_at e ((yes n ∷ []) ∷ (nay m ∷ []) ∷ (yes v ∷ []) ∷ []))) (sym (grown_scope b e g))
+        subst (λ s. IsInstance s rows [] (WithPredicate Des (term_at b.terms f)) (alternatives_at e ((yes n ∷ []) ∷ (nay m ∷ []) ∷ (yes v ∷ []) ∷ []))) (sym (grown_scope b e g))
             (des_is (content_scope b) rows [] a (term_at b.terms f) (alternatives_at e ((yes n ∷ []) ∷ (nay m ∷ []) ∷ (yes v ∷ []) ∷ [])) p.predicate_in
             (ap₂ (λ x y. (x ∷ []) ∷ (y ∷ []) ∷ (as_literal (term_at e.terms v) ∷ []) ∷ []) first_is second
             ∙ ap (λ z. (as_literal (nowhere a (term_at b.terms f)) ∷ []) ∷ (opposite (as_literal (at_most_once a (term_at b.terms f))) ∷ []) ∷ (z ∷ []) ∷ []) third)),

@@ -7,7 +7,8 @@ use Rattle.stt_core.specs.View.{the_type}
 use Rattle.tableau_calculus.specs.Literals.{minus, opposite, as_literal}
 use Rattle.tableau_calculus.specs.Witnesses.{Row}
 use Rattle.tableau_calculus.specs.Rules.{IsInstance}
-use Rattle.tableau_calculus.specs.declared.refutation.RuleUse.TheVariants.{Con}
+use Rattle.tableau_calculus.specs.declared.rule_use.TwoPlaces.TheVariants.{Con}
+use Rattle.tableau_calculus.specs.declared.rule_use.RuleUse.TheVariants.{AtTwo}
 use Rattle.tableau_calculus.proofs.InstanceLaws.{con_is}
 use Rattle.tableau_calculus.proofs.EquationLaws.{eq_canonical}
 use Rattle.term_bank.specs.Content.{Content, content_scope, Grows}
@@ -36,7 +37,7 @@ difference_is b d a s t x h =
     ∙ ap (λ u. opposite (as_literal u)) (has_at d x.formula (eq a (term_at b.terms s) (term_at b.terms t)) h.has)
 
 module _ (b : Content) (p q : Principal) (e o : Equation) (hp : IsPrincipal b p) (hq : IsPrincipal b q) (left : IsEquationOf b (term_at b.terms p.atom) (Some e)) (right : IsEquationOf b (term_at b.terms q.atom) (Some o)) where
-  pub con_different : (rows : List Row) → ((the_type e.ty.now ≡ the_type o.ty.now) → (n : ℕ) → the_type e.ty.now ≡ base (suc n) → ⊥) → Drafted b rows (p ∷ q ∷ []) (Con 0 1) None
+  pub con_different : (rows : List Row) → ((the_type e.ty.now ≡ the_type o.ty.now) → (n : ℕ) → the_type e.ty.now ≡ base (suc n) → ⊥) → Drafted b rows (p ∷ q ∷ []) (AtTwo Con 0 1) None
   con_different rows differ = con_none (content_scope b) rows (principal_at b p) (principal_at b q) (λ n s t u v f g.
       let x : eq (the_type e.ty.now) (term_at b.terms e.left) (term_at b.terms e.right) ≡ eq (base (suc n)) s t = sym left.0 ∙ ap (λ l. l.atom) f in
       let y : eq (the_type o.ty.now) (term_at b.terms o.left) (term_at b.terms o.right) ≡ eq (base (suc n)) u v = sym right.0 ∙ ap (λ l. l.atom) g in
@@ -73,7 +74,7 @@ module _ (b : Content) (p q : Principal) (e o : Equation) (hp : IsPrincipal b p)
     pub at_rr : AreSides b (the_type e.ty.now) e.right o.right
     at_rr = joined e.right e.left o.right o.left (turned e.left e.right first_sides) (turned o.left o.right second_sides)
 
-    pub con_found : (c d : Content) (rows : List Row) → Grows b c → Grows c d → p.positive ≡ true → q.positive ≡ false → (n : ℕ) → the_type e.ty.now ≡ base (suc n) → (f g h k : Signed) → DifferFromBoth b c (the_type e.ty.now) e.left e.right o.left f g → DifferFromBoth c d (the_type e.ty.now) e.left e.right o.right h k → (ds : List (List Signed)) → ds ≡ (f ∷ g ∷ []) ∷ (h ∷ k ∷ []) ∷ [] → Drafted d rows (p ∷ q ∷ []) (Con 0 1) (Some ds)
+    pub con_found : (c d : Content) (rows : List Row) → Grows b c → Grows c d → p.positive ≡ true → q.positive ≡ false → (n : ℕ) → the_type e.ty.now ≡ base (suc n) → (f g h k : Signed) → DifferFromBoth b c (the_type e.ty.now) e.left e.right o.left f g → DifferFromBoth c d (the_type e.ty.now) e.left e.right o.right h k → (ds : List (List Signed)) → ds ≡ (f ∷ g ∷ []) ∷ (h ∷ k ∷ []) ∷ [] → Drafted d rows (p ∷ q ∷ []) (AtTwo Con 0 1) (Some ds)
     con_found c d rows x y sp sq n is f g h k first second ds w =
         let f' = difference_grown b c d (the_type e.ty.now) e.left o.left f y first.0 in
         let g' = difference_grown b c d (the_type e.ty.now) e.right o.left g y first.1 in
@@ -85,16 +86,16 @@ module _ (b : Content) (p q : Principal) (e o : Equation) (hp : IsPrincipal b p)
         (difference_is b d (the_type e.ty.now) e.left o.left f f', difference_is b d (the_type e.ty.now) e.right o.left g g')
         (difference_is b d (the_type e.ty.now) e.left o.right h h', difference_is b d (the_type e.ty.now) e.right o.right k k') refl in
         let z = grows_on b c d x y in
-        subst (λ l. Drafted d rows (p ∷ q ∷ []) (Con 0 1) (Some l)) (sym w) (
+        subst (λ l. Drafted d rows (p ∷ q ∷ []) (AtTwo Con 0 1) (Some l)) (sym w) (
           ((within f e.left o.left f', (within g e.right o.left g', tt)), ((within h e.left o.right h', (within k e.right o.right k', tt)), tt)),
-          subst (λ s. IsInstance s rows (principal_at d p ∷ principal_at d q ∷ []) (Con 0 1) (alternatives_at d ((f ∷ g ∷ []) ∷ (h ∷ k ∷ []) ∷ []))) (sym (grown_scope b d z))
-              (subst₂ (λ l m. IsInstance (content_scope b) rows (l ∷ m ∷ []) (Con 0 1) (alternatives_at d ((f ∷ g ∷ []) ∷ (h ∷ k ∷ []) ∷ []))) (sym (principal_grown b d p z hp)) (sym (principal_grown b d q z hq)) all),
+          subst (λ s. IsInstance s rows (principal_at d p ∷ principal_at d q ∷ []) (AtTwo Con 0 1) (alternatives_at d ((f ∷ g ∷ []) ∷ (h ∷ k ∷ []) ∷ []))) (sym (grown_scope b d z))
+              (subst₂ (λ l m. IsInstance (content_scope b) rows (l ∷ m ∷ []) (AtTwo Con 0 1) (alternatives_at d ((f ∷ g ∷ []) ∷ (h ∷ k ∷ []) ∷ []))) (sym (principal_grown b d p z hp)) (sym (principal_grown b d q z hq)) all),
         )
       where
         within : (t : Signed) (i j : ℕ) → IsDifference b d (the_type e.ty.now) i j t → t.formula < length d.terms
         within t i j m = has_within d t.formula (eq (the_type e.ty.now) (term_at b.terms i) (term_at b.terms j)) m.has
 
-pub con_no_second : (b : Content) (rows : List Row) (p q : Principal) → IsEquationOf b (term_at b.terms q.atom) None → Drafted b rows (p ∷ q ∷ []) (Con 0 1) None
+pub con_no_second : (b : Content) (rows : List Row) (p q : Principal) → IsEquationOf b (term_at b.terms q.atom) None → Drafted b rows (p ∷ q ∷ []) (AtTwo Con 0 1) None
 con_no_second b rows p q none = con_none (content_scope b) rows (principal_at b p) (principal_at b q) (λ n s t u v f g. none (base (suc n)) u v (ap (λ l. l.atom) g))
 
 pub sides_same : (b : Content) (x a : SimpleType) (i s t : ℕ) → x ≡ a → i ≡ s → AreSides b a s t → AreSides b x i t

@@ -6,9 +6,9 @@ use Rattle.stt_core.specs.View.{the_type}
 use Rattle.normal_forms.specs.Normal.{apply}
 use Rattle.tableau_calculus.specs.Literals.{as_literal, opposite}
 use Rattle.tableau_calculus.specs.Witnesses.{Row}
-use Rattle.tableau_calculus.specs.Rules.{IsInstance, agreement}
-use Rattle.tableau_calculus.specs.declared.refutation.RuleUse.{RuleUse}
-use Rattle.tableau_calculus.specs.declared.refutation.RuleUse.TheVariants.{AllPos, FunPos, FunNeg}
+use Rattle.tableau_calculus.specs.Rules.{PlainRule, IsInstance, agreement}
+use Rattle.tableau_calculus.specs.declared.rule_use.OnePlace.TheVariants.{FunPos, FunNeg}
+use Rattle.tableau_calculus.specs.declared.rule_use.RuleUse.TheVariants.{AtOne, AllPos}
 use Rattle.stt_core.specs.SimpleType.{arrow, formula}
 use Rattle.tableau_calculus.proofs.EquationLaws.{eq_canonical}
 use Rattle.tableau_rules.specs.Internal.Typed.{AreSides}
@@ -28,7 +28,7 @@ use Rattle.tableau_rules.proofs.DraftLaws.{stands, yes, nay}
 pub principal_grown : (b c : Content) (p : Principal) → Grows b c → IsPrincipal b p → principal_at c p ≡ principal_at b p
 principal_grown b c p g h = ap (λ t. record { positive = p.positive; atom = t }) (grown_at b c p.atom g h.within)
 
-pub drafted_grown : (b c : Content) (rows : List Row) (p : Principal) (rule : RuleUse) (ds : List (List Signed)) → Grows b c → IsPrincipal b p → AreDraftedWithin c ds → IsInstance (content_scope b) rows (principal_at b p ∷ []) rule (alternatives_at c ds) → Drafted c rows (p ∷ []) rule (Some ds)
+pub drafted_grown : (b c : Content) (rows : List Row) (p : Principal) (rule : PlainRule) (ds : List (List Signed)) → Grows b c → IsPrincipal b p → AreDraftedWithin c ds → IsInstance (content_scope b) rows (principal_at b p ∷ []) rule (alternatives_at c ds) → Drafted c rows (p ∷ []) rule (Some ds)
 drafted_grown b c rows p rule ds g h w i =
     (w, subst₂ (λ s l. IsInstance s rows (l ∷ []) rule (alternatives_at c ds)) (sym (grown_scope b c g)) (sym (principal_grown b c p g h)) i)
 
@@ -46,16 +46,16 @@ functions_sides b p f h is =
     record { left_within = is.1; right_within = is.2; declared = e.declared; left = e.left; right = e.right }
 
 module _ (b c : Content) (rows : List Row) (p : Principal) (f : Functions) (v : ℕ) (s : Signed) (ds : List (List Signed)) (g : Grows b c) (h : IsPrincipal b p) (is : AreFunctionsOf b (term_at b.terms p.atom) (Some f)) (made : HasTerm c v (agreement (the_type f.argument) (the_type f.outcome) (term_at b.terms f.left) (term_at b.terms f.right))) (e : ds ≡ (s ∷ []) ∷ []) where
-  pub fun_pos_found : p.positive ≡ true → s ≡ yes v → Drafted c rows (p ∷ []) (FunPos 0) (Some ds)
+  pub fun_pos_found : p.positive ≡ true → s ≡ yes v → Drafted c rows (p ∷ []) (AtOne FunPos 0) (Some ds)
   fun_pos_found sign hs =
-      subst (λ d. Drafted c rows (p ∷ []) (FunPos 0) (Some d)) (sym (e ∙ ap (λ x. (x ∷ []) ∷ []) hs))
-      (drafted_grown b c rows p (FunPos 0) ((yes v ∷ []) ∷ []) g h ((has_within c v (agreement (the_type f.argument) (the_type f.outcome) (term_at b.terms f.left) (term_at b.terms f.right)) made, tt), tt)
+      subst (λ d. Drafted c rows (p ∷ []) (AtOne FunPos 0) (Some d)) (sym (e ∙ ap (λ x. (x ∷ []) ∷ []) hs))
+      (drafted_grown b c rows p (AtOne FunPos 0) ((yes v ∷ []) ∷ []) g h ((has_within c v (agreement (the_type f.argument) (the_type f.outcome) (term_at b.terms f.left) (term_at b.terms f.right)) made, tt), tt)
       (fun_pos_is (content_scope b) rows (principal_at b p ∷ []) 0 (arrow (the_type f.argument) (the_type f.outcome)) (the_type f.argument) (the_type f.outcome) (term_at b.terms f.left) (term_at b.terms f.right) (term_at c.terms v) (as_literal (term_at c.terms v)) (alternatives_at c ((yes v ∷ []) ∷ []))
       (stands b p true (eq (arrow (the_type f.argument) (the_type f.outcome)) (term_at b.terms f.left) (term_at b.terms f.right)) sign is.0) refl (has_at c v (agreement (the_type f.argument) (the_type f.outcome) (term_at b.terms f.left) (term_at b.terms f.right)) made) refl refl))
 
-  pub fun_neg_found : p.positive ≡ false → s ≡ nay v → Drafted c rows (p ∷ []) (FunNeg 0) (Some ds)
+  pub fun_neg_found : p.positive ≡ false → s ≡ nay v → Drafted c rows (p ∷ []) (AtOne FunNeg 0) (Some ds)
   fun_neg_found sign hs =
-      subst (λ d. Drafted c rows (p ∷ []) (FunNeg 0) (Some d)) (sym (e ∙ ap (λ x. (x ∷ []) ∷ []) hs))
-      (drafted_grown b c rows p (FunNeg 0) ((nay v ∷ []) ∷ []) g h ((has_within c v (agreement (the_type f.argument) (the_type f.outcome) (term_at b.terms f.left) (term_at b.terms f.right)) made, tt), tt)
+      subst (λ d. Drafted c rows (p ∷ []) (AtOne FunNeg 0) (Some d)) (sym (e ∙ ap (λ x. (x ∷ []) ∷ []) hs))
+      (drafted_grown b c rows p (AtOne FunNeg 0) ((nay v ∷ []) ∷ []) g h ((has_within c v (agreement (the_type f.argument) (the_type f.outcome) (term_at b.terms f.left) (term_at b.terms f.right)) made, tt), tt)
       (fun_neg_is (content_scope b) rows (principal_at b p ∷ []) 0 (arrow (the_type f.argument) (the_type f.outcome)) (the_type f.argument) (the_type f.outcome) (term_at b.terms f.left) (term_at b.terms f.right) (term_at c.terms v) (as_literal (term_at c.terms v)) (opposite (as_literal (term_at c.terms v))) (alternatives_at c ((nay v ∷ []) ∷ []))
       (stands b p false (eq (arrow (the_type f.argument) (the_type f.outcome)) (term_at b.terms f.left) (term_at b.terms f.right)) sign is.0) refl (has_at c v (agreement (the_type f.argument) (the_type f.outcome) (term_at b.terms f.left) (term_at b.terms f.right)) made) refl refl refl))

@@ -1,33 +1,34 @@
 -- Instances from drafts: their formulas are formulas, and numbers stand for them.
-use Rattle.std.proofs.Common.{◌≡◌, ◌<◌, ◌++◌, ℕ, true, false, Bool, List, [], ◌∷◌, map, length, get_or, Option, Some, None, option_map, take, refl, sym, ap, ap₂, subst, ◌∙◌, if◌then◌else◌}
-use Rattle.std.specs.Prelude.{All, option_to_list}
-use Rattle.std.specs.Option.{ForSome}
+use Rattle.std.proofs.Common.{◌≡◌, ◌<◌, ◌++◌, ℕ, true, false, Bool, List, [], ◌∷◌, map, length, get_or, take, refl, sym, ap, ap₂, subst₂, ◌∙◌, if◌then◌else◌}
+use Rattle.std.specs.Prelude.{All}
 use Rattle.sat_base.specs.declared.literal.SatLit.{SatLit}
 use Rattle.stt_core.specs.SimpleType.{formula}
 use Rattle.stt_core.specs.Lambda.{Lambda}
 use Rattle.stt_core.specs.Typing.{Scope, IsScope}
 use Rattle.stt_core.specs.Canonical.{IsCanonical}
 use Rattle.tableau_calculus.specs.Literals.{Literal, opposite, as_literal, IsLiteral, IsBranch}
-use Rattle.tableau_calculus.specs.Rules.{places, AreAt, IsInstance}
+use Rattle.tableau_calculus.specs.RuleUses.{principals_of, EachPart}
+use Rattle.tableau_calculus.specs.Rules.{PlainRule, AreAt, IsInstance}
 use Rattle.tableau_calculus.specs.Witnesses.{Row}
-use Rattle.tableau_calculus.specs.declared.refutation.RuleUse.{RuleUse}
+use Rattle.tableau_calculus.specs.declared.rule_use.RuleUse.TheVariants.{AtOne, AtTwo, AllPos, WithPredicate, Cut}
 use Rattle.tableau_calculus.proofs.LiteralLaws.{literal_cases}
 use Rattle.tableau_calculus.proofs.ClosedLaws.{literal_in}
 use Rattle.tableau_calculus.proofs.ListLaws.{contains-get}
+use Rattle.tableau_calculus.proofs.UseLaws.{each_part-more}
 use Rattle.term_bank.specs.Content.{Content, content_scope}
 use Rattle.term_bank.specs.Terms.{term_at}
 use Rattle.term_bank.proofs.ListLaws.{get_or-front}
 use Rattle.literal_map.specs.Atoms.{bank_literal, IsAtom, Begins}
-use Rattle.literal_map.specs.declared.instance.BankUse.{BankUse}
+use Rattle.literal_map.specs.Numbers.{UseByNumbers}
 use Rattle.search_spec.specs.Each.{Each}
 use Rattle.search_spec.proofs.TypedAlternatives.{alternatives_typed}
-use Rattle.tableau_rules.specs.Uses.{rule_of, use_of, is_cut, principals_of, IsInstanceBy}
+use Rattle.tableau_rules.specs.Uses.{use_of, IsInstanceBy}
 use Rattle.tableau_rules.specs.Changes.{Widens}
 use Rattle.tableau_rules.specs.Internal.Drafted.{signed_at, alternatives_at, IsDraftedWithin, AreDraftedWithin}
 use Rattle.tableau_rules.specs.Internal.Numbered.{AreFormulasIn, AllFormulas, AreNumberedLiterals, AllNumbered}
 use Rattle.tableau_rules.specs.Internal.Made.{AreDraftsOf}
 use Rattle.tableau_rules.specs.declared.draft.Signed.{Signed}
-use Rattle.tableau_rules.proofs.WideLaws.{wide_at, wide_instance}
+use Rattle.tableau_rules.proofs.WideLaws.{wide_at, wide_within, wide_instance}
 
 -- FORMULAS
 
@@ -59,34 +60,19 @@ at_typed scope branch (i ∷ is) (l ∷ ls) h k = (literal_in scope l branch (co
 
 -- PRINCIPALS
 
-listed_each : (n : ℕ) (o : Option SatLit) → ForSome o (λ l. l.var.0 < n) → Each (λ (l : SatLit). l.var.0 < n) (option_to_list o)
-listed_each n None h = tt
-listed_each n (Some l) h = (h l refl, tt)
-
-each_append : {X : Type 0} (P : X → Type 0) (xs ys : List X) → Each P xs → Each P ys → Each P (xs ++ ys)
-each_append P [] ys h k = k
-each_append P (x ∷ xs) ys h k = (h.0, each_append P xs ys h.1 k)
-
-pub principals_within : (n : ℕ) (by : BankUse) → ForSome by.first (λ l. l.var.0 < n) → ForSome by.second (λ l. l.var.0 < n) → Each (λ (l : SatLit). l.var.0 < n) (principals_of by)
-principals_within n by f g = go (is_cut by.kind)
-  where
-    go : (cut : Bool) → Each (λ (l : SatLit). l.var.0 < n) (if cut then [] else option_to_list by.first ++ option_to_list by.second)
-    go true = tt
-    go false = each_append (λ (l : SatLit). l.var.0 < n) (option_to_list by.first) (option_to_list by.second) (listed_each n by.first f) (listed_each n by.second g)
-
 branch_typed : (b : Content) (atoms : List ℕ) → All (IsAtom b) atoms → (ls : List SatLit) → Each (λ (l : SatLit). l.var.0 < length atoms) ls → IsBranch (content_scope b) (map (bank_literal b.terms atoms) ls)
 branch_typed b atoms are [] h = tt
 branch_typed b atoms are (l ∷ ls) h =
     let a = are l.var.0 0 h.0 in
     (record { formula = a.is_formula; unsigned = a.unsigned }, branch_typed b atoms are ls h.1)
 
-pub formulas_of : (b : Content) (atoms : List ℕ) (by : BankUse) (ds : List (List Signed)) → IsScope (content_scope b) → All (IsAtom b) atoms → ForSome by.first (λ l. l.var.0 < length atoms) → ForSome by.second (λ l. l.var.0 < length atoms) → AreDraftsOf b atoms by ds → AllFormulas b ds
-formulas_of b atoms by ds over are f g h =
-    let i = h.instance.is_instance in
-    let typed = branch_typed b atoms are (principals_of by) (principals_within (length atoms) by f g) in
+pub formulas_of : (b : Content) (atoms : List ℕ) (by : UseByNumbers) (ds : List (List Signed)) → IsScope (content_scope b) → All (IsAtom b) atoms → Each (λ (l : SatLit). l.var.0 < length atoms) (principals_of by) → AreDraftsOf b atoms by ds → AllFormulas b ds
+formulas_of b atoms by ds over are within h =
+    let i = h.instance in
+    let rule = use_of b.terms atoms by in
     all_formulas b ds h.within
-    (alternatives_typed (content_scope b) over h.rows h.types h.instance.rule i.principals (alternatives_at b ds) i.fits
-    (at_typed (content_scope b) (map (bank_literal b.terms atoms) (principals_of by)) (places h.instance.rule) i.principals typed i.at_places))
+    (alternatives_typed (content_scope b) over h.rows h.types rule i.principals (alternatives_at b ds) i.fits
+    (at_typed (content_scope b) (map (bank_literal b.terms atoms) (principals_of by)) (principals_of rule) i.principals (branch_typed b atoms are (principals_of by) within) i.at_places))
 
 -- NUMBERS
 
@@ -123,42 +109,37 @@ taken_back xs ys zs n e g h = h ∙ ap₂ take e g.is ∙ take_front xs g.furthe
 
 -- THE SAME INSTANCE OVER ANOTHER BANK AND MORE ATOMS
 
-module _ (b c : Content) (atoms more : List ℕ) (by : BankUse) (same : (l : SatLit) → l.var.0 < length atoms → bank_literal c.terms more l ≡ bank_literal b.terms atoms l) (first : ForSome by.first (λ l. l.var.0 < length atoms)) (second : ForSome by.second (λ l. l.var.0 < length atoms)) where
-  option_same : (o : Option SatLit) → ForSome o (λ l. l.var.0 < length atoms) → option_map (bank_literal c.terms more) o ≡ option_map (bank_literal b.terms atoms) o
-  option_same None h = refl
-  option_same (Some l) h = ap Some (same l (h l refl))
-
+module _ (b c : Content) (atoms more : List ℕ) (literals : (l : SatLit) → l.var.0 < length atoms → bank_literal c.terms more l ≡ bank_literal b.terms atoms l) (terms : (id : ℕ) → id < length b.terms → term_at c.terms id ≡ term_at b.terms id) where
   list_same : (ls : List SatLit) → Each (λ (l : SatLit). l.var.0 < length atoms) ls → map (bank_literal c.terms more) ls ≡ map (bank_literal b.terms atoms) ls
   list_same [] h = refl
-  list_same (l ∷ ls) h = ap₂ (λ x xs. x ∷ xs) (same l h.0) (list_same ls h.1)
+  list_same (l ∷ ls) h = ap₂ (λ x xs. x ∷ xs) (literals l h.0) (list_same ls h.1)
 
-  use_same : option_map (term_at c.terms) by.term ≡ option_map (term_at b.terms) by.term → use_of c.terms more by ≡ use_of b.terms atoms by
-  use_same t = λ i. rule_of by.kind (option_same by.first first i) (option_same by.second second i) (t i)
+  pub use_same : (by : UseByNumbers) → EachPart (λ id. id < length b.terms) (λ (l : SatLit). l.var.0 < length atoms) by → use_of c.terms more by ≡ use_of b.terms atoms by
+  use_same (AtOne rule l) h = refl
+  use_same (AtTwo rule l m) h = refl
+  use_same (AllPos l u) h = ap (AllPos 0) (terms u h)
+  use_same (WithPredicate rule u) h = ap (WithPredicate rule) (terms u h)
+  use_same (Cut l) h = ap Cut (literals l h)
 
-  principals_same : map (bank_literal c.terms more) (principals_of by) ≡ map (bank_literal b.terms atoms) (principals_of by)
-  principals_same = list_same (principals_of by) (principals_within (length atoms) by first second)
+  pub instance_moved : (by : UseByNumbers) → Each (λ (l : SatLit). l.var.0 < length atoms) (principals_of by) → EachPart (λ id. id < length b.terms) (λ (l : SatLit). l.var.0 < length atoms) by → (rows : List Row) (as' : List (List Literal)) → ((branch : List Literal) (rule : PlainRule) → IsInstance (content_scope b) rows branch rule as' → IsInstance (content_scope c) rows branch rule as') → IsInstanceBy b atoms rows by as' → IsInstanceBy c more rows by as'
+  instance_moved by within parts rows as' scope h =
+      subst₂ (λ ls rule. IsInstance (content_scope c) rows ls rule as') (sym (list_same (principals_of by) within)) (sym (use_same by parts))
+      (scope (map (bank_literal b.terms atoms) (principals_of by)) (use_of b.terms atoms by) h)
 
-  pub instance_moved : option_map (term_at c.terms) by.term ≡ option_map (term_at b.terms) by.term → (rows : List Row) (as' : List (List Literal)) → ((rule : RuleUse) → IsInstance (content_scope b) rows (map (bank_literal b.terms atoms) (principals_of by)) rule as' → IsInstance (content_scope c) rows (map (bank_literal b.terms atoms) (principals_of by)) rule as') → IsInstanceBy b atoms rows by as' → IsInstanceBy c more rows by as'
-  instance_moved t rows as' scope h = record {
-    rule = h.rule;
-    is_rule = use_same t ∙ h.is_rule;
-    is_instance = subst (λ ls. IsInstance (content_scope c) rows ls h.rule as') (sym principals_same) (scope h.rule h.is_instance);
-  }
+-- what a rule takes stays within a widened bank
+pub parts_wider : (b c : Content) (atoms : List ℕ) (by : UseByNumbers) → Widens b c → EachPart (λ id. id < length b.terms) (λ (l : SatLit). l.var.0 < length atoms) by → EachPart (λ id. id < length c.terms) (λ (l : SatLit). l.var.0 < length atoms) by
+parts_wider b c atoms by w = each_part-more (λ id. id < length b.terms) (λ id. id < length c.terms) (λ (l : SatLit). l.var.0 < length atoms) (λ (l : SatLit). l.var.0 < length atoms) (wide_within b c w) (λ l h. h) by
 
--- over more atoms
-pub instance_on : (b : Content) (atoms more : List ℕ) (by : BankUse) → Begins atoms more → ForSome by.first (λ l. l.var.0 < length atoms) → ForSome by.second (λ l. l.var.0 < length atoms) → (rows : List Row) (as' : List (List Literal)) → IsInstanceBy b atoms rows by as' → IsInstanceBy b more rows by as'
-instance_on b atoms more by g first second rows as' h =
-    instance_moved b b atoms more by
-    (λ l k. ap (λ x. record { positive = l.positive; atom = term_at b.terms x }) (ap (λ xs. get_or xs l.var.0 0) g.is ∙ get_or-front atoms g.further l.var.0 0 k))
-    first second refl rows as' (λ rule i. i) h
+module _ (by : UseByNumbers) (rows : List Row) (as' : List (List Literal)) where
+  -- over more atoms
+  pub instance_on : (b : Content) (atoms more : List ℕ) → Begins atoms more → Each (λ (l : SatLit). l.var.0 < length atoms) (principals_of by) → EachPart (λ id. id < length b.terms) (λ (l : SatLit). l.var.0 < length atoms) by → IsInstanceBy b atoms rows by as' → IsInstanceBy b more rows by as'
+  instance_on b atoms more g within parts =
+      instance_moved b b atoms more
+      (λ l k. ap (λ x. record { positive = l.positive; atom = term_at b.terms x }) (ap (λ xs. get_or xs l.var.0 0) g.is ∙ get_or-front atoms g.further l.var.0 0 k))
+      (λ id k. refl) by within parts rows as' (λ branch rule i. i)
 
-term_same : (b c : Content) → Widens b c → (o : Option ℕ) → ForSome o (λ id. id < length b.terms) → option_map (term_at c.terms) o ≡ option_map (term_at b.terms) o
-term_same b c w None h = refl
-term_same b c w (Some id) h = ap Some (wide_at b c w id (h id refl))
-
--- over a widened bank
-pub instance_wider : (b c : Content) (atoms : List ℕ) (by : BankUse) → Widens b c → All (IsAtom b) atoms → ForSome by.first (λ l. l.var.0 < length atoms) → ForSome by.second (λ l. l.var.0 < length atoms) → ForSome by.term (λ id. id < length b.terms) → (rows : List Row) (as' : List (List Literal)) → IsInstanceBy b atoms rows by as' → IsInstanceBy c atoms rows by as'
-instance_wider b c atoms by w are first second term rows as' h =
-    instance_moved b c atoms atoms by
-    (λ l k. ap (λ t. record { positive = l.positive; atom = t }) (wide_at b c w (get_or atoms l.var.0 0) (are l.var.0 0 k).within))
-    first second (term_same b c w by.term term) rows as' (λ rule i. wide_instance b c w rows (map (bank_literal b.terms atoms) (principals_of by)) rule as' i) h
+  -- over a widened bank
+  pub instance_wider : (b c : Content) (atoms : List ℕ) → Widens b c → All (IsAtom b) atoms → Each (λ (l : SatLit). l.var.0 < length atoms) (principals_of by) → EachPart (λ id. id < length b.terms) (λ (l : SatLit). l.var.0 < length atoms) by → IsInstanceBy b atoms rows by as' → IsInstanceBy c atoms rows by as'
+  instance_wider b c atoms w are within parts =
+      instance_moved b c atoms atoms (λ l k. ap (λ t. record { positive = l.positive; atom = t }) (wide_at b c w (get_or atoms l.var.0 0) (are l.var.0 0 k).within))
+      (wide_at b c w) by within parts rows as' (λ branch rule i. wide_instance b c w rows branch rule as' i)

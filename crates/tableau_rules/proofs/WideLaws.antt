@@ -10,8 +10,7 @@ use Rattle.stt_core.specs.Typing.{Scope, constant_type}
 use Rattle.stt_core.specs.Canonical.{IsCanonical, IsNeutral}
 use Rattle.tableau_calculus.specs.Literals.{Literal, is_negated}
 use Rattle.tableau_calculus.specs.Witnesses.{Row, with_rows}
-use Rattle.tableau_calculus.specs.Rules.{Rule, false_rule, close_rule, refl_rule, imp_pos_rule, imp_neg_rule, bool_pos_rule, bool_neg_rule, fun_pos_rule, fun_neg_rule, all_pos_rule, all_neg_rule, mat_rule, dec_rule, con_rule, cho_rule, des_rule, cut_rule, IsInstance}
-use Rattle.tableau_calculus.specs.declared.refutation.RuleUse.{RuleUse}
+use Rattle.tableau_calculus.specs.Rules.{PlainRule, Rule, false_rule, close_rule, refl_rule, imp_pos_rule, imp_neg_rule, bool_pos_rule, bool_neg_rule, fun_pos_rule, fun_neg_rule, all_pos_rule, all_neg_rule, mat_rule, dec_rule, con_rule, cho_rule, des_rule, cut_rule, IsInstance}
 use Rattle.term_bank.specs.Content.{Content, content_scope, HasTerm, Grows}
 use Rattle.term_bank.specs.Terms.{term_at}
 use Rattle.term_bank.proofs.ListLaws.{get_or-front}
@@ -74,7 +73,7 @@ module _ (s : Scope) (types : List SimpleType) where
   constant_more : (c : Constant) (a : SimpleType) → constant_type s c ≡ Some a → constant_type wider c ≡ Some a
   constant_more c a h = neutral_more [] a (constant c) h
 
-  rule_more : (rows : List Row) (rule : RuleUse) (ps : List Literal) (as' : List (List Literal)) → Rule s rows rule ps as' → Rule wider rows rule ps as'
+  rule_more : (rows : List Row) (rule : PlainRule) (ps : List Literal) (as' : List (List Literal)) → Rule s rows rule ps as' → Rule wider rows rule ps as'
   rule_more rows _ _ _ (false_rule i) = false_rule i
   rule_more rows _ _ _ (close_rule i j l) = close_rule i j l
   rule_more rows _ _ _ (refl_rule i a u) = refl_rule i a u
@@ -108,7 +107,7 @@ module _ (b c : Content) (w : Widens b c) where
   pub wide_canonical : (ctx : List SimpleType) (a : SimpleType) (t : Lambda) → IsCanonical (content_scope b) ctx a t → IsCanonical (content_scope c) ctx a t
   wide_canonical ctx a t h = subst (λ s. IsCanonical s ctx a t) (sym wide_scope) (canonical_more (content_scope b) w.types ctx a t h)
 
-  pub wide_instance : (rows : List Row) (branch : List Literal) (rule : RuleUse) (as' : List (List Literal)) → IsInstance (content_scope b) rows branch rule as' → IsInstance (content_scope c) rows branch rule as'
+  pub wide_instance : (rows : List Row) (branch : List Literal) (rule : PlainRule) (as' : List (List Literal)) → IsInstance (content_scope b) rows branch rule as' → IsInstance (content_scope c) rows branch rule as'
   wide_instance rows branch rule as' h =
       subst (λ s. IsInstance s rows branch rule as') (sym wide_scope)
       (record { principals = h.principals; at_places = h.at_places; fits = rule_more (content_scope b) w.types rows rule h.principals as' h.fits })

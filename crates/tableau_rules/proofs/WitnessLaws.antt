@@ -11,7 +11,8 @@ use Rattle.normal_forms.specs.Normal.{eta, apply}
 use Rattle.normal_forms.proofs.NormalValues.{canonical-eta}
 use Rattle.tableau_calculus.specs.Literals.{Literal, minus, opposite, as_literal}
 use Rattle.tableau_calculus.specs.Witnesses.{Row, with_rows, IsTypedRow}
-use Rattle.tableau_calculus.specs.declared.refutation.RuleUse.TheVariants.{AllNeg}
+use Rattle.tableau_calculus.specs.declared.rule_use.OnePlace.TheVariants.{AllNeg}
+use Rattle.tableau_calculus.specs.declared.rule_use.RuleUse.TheVariants.{AtOne}
 use Rattle.tableau_calculus.proofs.FunctionLaws.{every_canonical}
 use Rattle.tableau_calculus.proofs.InstanceLaws.{all_neg_is}
 use Rattle.term_bank.specs.Content.{Content, content_scope, HasTerm, Grows}
@@ -105,16 +106,16 @@ module _ (b : Content) (p : Principal) (q : Quantified) (h : IsPrincipal b p) (i
           pub value_made : (m : Content) (n : ℕ) → Grows d m → HasTerm m n (apply (term_at d.terms q.predicate) (term_at d.terms v)) → HasTerm m n (apply (term_at m.terms q.predicate) (eta (the_type q.ty.now) (constant (witness k))))
           value_made m n l made = made ∙ ap Some (ap₂ apply (sym (grown_at d m q.predicate l (grown_within c d q.predicate g (wide_within b c w q.predicate is.1)))) witness_at)
 
-      pub all_neg_found : (n : ℕ) → HasTerm c n (apply (term_at c.terms q.predicate) (eta (the_type q.ty.now) (constant (witness k)))) → (s : Signed) (ds : List (List Signed)) → s ≡ nay n → ds ≡ (s ∷ []) ∷ [] → DraftedOver c (rows_of c.terms ids) (p ∷ []) (AllNeg 0) (Some ds)
+      pub all_neg_found : (n : ℕ) → HasTerm c n (apply (term_at c.terms q.predicate) (eta (the_type q.ty.now) (constant (witness k)))) → (s : Signed) (ds : List (List Signed)) → s ≡ nay n → ds ≡ (s ∷ []) ∷ [] → DraftedOver c (rows_of c.terms ids) (p ∷ []) (AtOne AllNeg 0) (Some ds)
       all_neg_found n made s ds hs e =
-          subst (λ l. DraftedOver c (rows_of c.terms ids) (p ∷ []) (AllNeg 0) (Some l)) (sym (e ∙ ap (λ x. (x ∷ []) ∷ []) hs)) (
+          subst (λ l. DraftedOver c (rows_of c.terms ids) (p ∷ []) (AtOne AllNeg 0) (Some l)) (sym (e ∙ ap (λ x. (x ∷ []) ∷ []) hs)) (
             ((has_within c n (apply (term_at c.terms q.predicate) (eta (the_type q.ty.now) (constant (witness k)))) made, tt), tt),
             all_neg_is (content_scope c) (rows_of c.terms ids) (principal_at c p ∷ []) 0 k (the_type q.ty.now) (term_at c.terms q.predicate) (eta (the_type q.ty.now) (constant (witness k))) (term_at c.terms n) (as_literal (term_at c.terms n)) (opposite (as_literal (term_at c.terms n))) (alternatives_at c ((nay n ∷ []) ∷ []))
                 (ap Some denies) row_is refl (has_at c n (apply (term_at c.terms q.predicate) (eta (the_type q.ty.now) (constant (witness k)))) made) refl refl refl,
           )
 
-pub all_neg_positive : (b : Content) (rows : List Row) (p : Principal) → p.positive ≡ true → DraftedOver b rows (p ∷ []) (AllNeg 0) None
+pub all_neg_positive : (b : Content) (rows : List Row) (p : Principal) → p.positive ≡ true → DraftedOver b rows (p ∷ []) (AtOne AllNeg 0) None
 all_neg_positive b rows p sign = λ others. all_neg_none (content_scope b) others (principal_at b p) (λ a f e. let s : true ≡ false = sym sign ∙ ap (λ (l : Literal). l.positive) e in cc)
 
-pub all_neg_other : (b : Content) (rows : List Row) (p : Principal) → IsQuantifiedOf b (term_at b.terms p.atom) None → DraftedOver b rows (p ∷ []) (AllNeg 0) None
+pub all_neg_other : (b : Content) (rows : List Row) (p : Principal) → IsQuantifiedOf b (term_at b.terms p.atom) None → DraftedOver b rows (p ∷ []) (AtOne AllNeg 0) None
 all_neg_other b rows p none = λ others. all_neg_none (content_scope b) others (principal_at b p) (λ a f e. none a f (ap (λ (l : Literal). l.atom) e))

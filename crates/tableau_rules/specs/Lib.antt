@@ -1,5 +1,6 @@
 pub use Rattle.bank_normal.specs.Right
 pub use Rattle.literal_map.specs.Atoms
+pub use Rattle.literal_map.specs.Numbers
 pub use Rattle.normal_forms.specs.Normal
 pub use Rattle.search_spec.specs.Each
 pub use Rattle.stt_core.specs.Canonical
@@ -7,6 +8,7 @@ pub use Rattle.stt_core.specs.Lambda
 pub use Rattle.stt_core.specs.SimpleType
 pub use Rattle.stt_core.specs.View
 pub use Rattle.tableau_calculus.specs.Literals
+pub use Rattle.tableau_calculus.specs.RuleUses
 pub use Rattle.tableau_calculus.specs.Rules
 pub use Rattle.tableau_calculus.specs.Witnesses
 pub use Rattle.term_bank.specs.Content

@@ -6,7 +6,8 @@ ghost use Rattle.stt_core.specs.View.{the_type, the_head};
 ghost use Rattle.normal_forms.specs.Normal.{eta, apply};
 ghost use Rattle.tableau_calculus.specs.Rules.{at_outer, at_inner, at_most_once};
 ghost use Rattle.tableau_calculus.specs.Witnesses.{Row};
-ghost use Rattle.tableau_calculus.specs.declared.refutation.RuleUse.TheVariants.{Cho, Des};
+ghost use Rattle.tableau_calculus.specs.declared.rule_use.OfPredicate.TheVariants.{Cho, Des};
+ghost use Rattle.tableau_calculus.specs.declared.rule_use.RuleUse.TheVariants.{WithPredicate};
 ghost use Rattle.term_bank.specs.Content.{content_scope, Grows, HasTerm};
 ghost use Rattle.term_bank.specs.Terms.{term_at};
 ghost use Rattle.bank_normal.specs.Right.{IsRightNormaliser};
@@ -73,7 +74,7 @@ pub(crate) fn cho_drafts(
 ) -> Result<Option<Drafts>, AllocError>
     requires term { f < length bank.old.terms }
     requires right { IsRightNormaliser normal.old bank.old }
-    ensures drafted { IfOk result (λ o. (rows : List Row) → Drafted bank.new rows [] (Cho (term_at bank.old.terms f)) o) }
+    ensures drafted { IfOk result (λ o. (rows : List Row) → Drafted bank.new rows [] (WithPredicate Cho (term_at bank.old.terms f)) o) }
     ensures grows { Grows bank.old bank.new }
     ensures right { IsRightNormaliser normal.new bank.new }
 {
@@ -172,7 +173,7 @@ pub(crate) fn des_drafts(
 ) -> Result<Option<Drafts>, AllocError>
     requires term { f < length bank.old.terms }
     requires right { IsRightNormaliser normal.old bank.old }
-    ensures drafted { IfOk result (λ o. (rows : List Row) → Drafted bank.new rows [] (Des (term_at bank.old.terms f)) o) }
+    ensures drafted { IfOk result (λ o. (rows : List Row) → Drafted bank.new rows [] (WithPredicate Des (term_at bank.old.terms f)) o) }
     ensures grows { Grows bank.old bank.new }
     ensures right { IsRightNormaliser normal.new bank.new }
 {

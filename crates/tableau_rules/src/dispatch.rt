@@ -1,15 +1,17 @@
 //! The rules by what they take.
-ghost use Rattle.std.specs.Prelude.{◌≡◌, ◌<◌, ◌-◌, ◌^◌, ℕ, List, length, Some, None, All, IfOk, OnOk, OnErr, ◌⊎◌};
-ghost use Rattle.std.specs.Option.{ForSome};
+ghost use Rattle.std.specs.Prelude.{◌≡◌, ◌<◌, ◌-◌, ◌^◌, ℕ, List, length, Some, None, All, IfOk, OnOk, OnErr, false, ◌⊎◌};
+ghost use Rattle.search_spec.specs.Each.{Each};
+ghost use Rattle.tableau_calculus.specs.RuleUses.{principals_of, EachPart};
 ghost use Rattle.tableau_calculus.specs.Witnesses.{Row};
+ghost use Rattle.tableau_calculus.specs.declared.rule_use.OnePlace.TheVariants.{AllNeg};
+ghost use Rattle.tableau_calculus.specs.declared.rule_use.RuleUse.TheVariants.{AtOne, AtTwo, AllPos, WithPredicate, Cut};
 ghost use Rattle.term_bank.specs.Content.{Grows};
 ghost use Rattle.bank_normal.specs.Right.{IsRightNormaliser};
 ghost use Rattle.literal_map.specs.Atoms.{IsAtom};
-ghost use Rattle.literal_map.specs.declared.instance.RuleKind.TheVariants.{AllNeg};
 ghost use Rattle.witness_names.specs.Rows.{rows_of, AreRows};
-ghost use Rattle.tableau_rules.specs.Changes.{Widens, AreWitnessesBy};
+ghost use Rattle.tableau_rules.specs.Changes.{Widens, makes_witness, denial_of, AreWitnessesBy};
 ghost use Rattle.tableau_rules.specs.Internal.Declaring.{AreDeclaredIn};
-ghost use Rattle.tableau_rules.specs.Internal.Used.{DraftedBy, WitnessesWhere, MakesNoWitness, IsOnlyFirst};
+ghost use Rattle.tableau_rules.specs.Internal.Used.{DraftedBy, WitnessesWhere, IsDenialOf};
 
 use crate::choice::{cho_drafts, des_drafts};
 use crate::draft::Drafts;
@@ -23,72 +25,69 @@ use crate::quantifier::all_pos_drafts;
 use crate::spine::{dec_drafts, mat_drafts};
 use crate::witness::all_neg_drafts;
 use bank_normal::Normaliser;
-use literal_map::{BankUse, LitTable, RuleKind};
+use literal_map::{BankUse, LitTable};
 use sat_base::SatLit;
 use std::alloc::{AllocError, Global};
+use tableau_calculus::{OfPredicate, OnePlace, RuleUse, TwoPlaces};
 use term_bank::{Bank, Id};
 use witness_names::Witnesses;
 
-fn by_one(
+fn at_one(
     alloc: Global,
     bank: &mut Bank,
     lits: &LitTable,
-    kind: RuleKind,
+    rule: OnePlace,
     lit: SatLit,
 ) -> Result<Option<Drafts>, AllocError>
-    requires kind { kind ≡ AllNeg → ⊥ }
+    requires rule { makes_witness rule ≡ false }
     requires number { lit.var.0 < length lits.now }
     requires atoms { All (IsAtom bank.old) lits.now }
-    ensures drafted { IfOk result (λ o. (rows : List Row) → DraftedBy bank.new lits.now rows (record { kind = kind; first = Some lit; second = None; term = None }) o) }
+    ensures drafted { IfOk result (λ o. (rows : List Row) → DraftedBy bank.new lits.now rows (AtOne rule lit) o) }
     ensures grows { Grows bank.old bank.new }
 {
     let p = principal_of(&*bank, lits, lit);
-    match kind {
-        RuleKind::False => Ok(false_drafts(alloc, &*bank, p)),
-        RuleKind::Refl => Ok(refl_drafts(alloc, &*bank, p)),
-        RuleKind::ImpPos => Ok(imp_pos_drafts(alloc, &*bank, p)?),
-        RuleKind::ImpNeg => Ok(imp_neg_drafts(alloc, &*bank, p)?),
-        RuleKind::BoolPos => Ok(bool_pos_drafts(alloc, &*bank, p)?),
-        RuleKind::BoolNeg => Ok(bool_neg_drafts(alloc, &*bank, p)?),
-        RuleKind::FunPos => Ok(fun_pos_drafts(alloc, bank, p)?),
-        RuleKind::FunNeg => Ok(fun_neg_drafts(alloc, bank, p)?),
-        RuleKind::Dec => Ok(dec_drafts(alloc, bank, p)?),
-        RuleKind::Cut => Ok(Some(cut_drafts(alloc, &*bank, p)?)),
-        RuleKind::AllNeg => unreachable!(),
-        _ => Ok(None),
+    match rule {
+        OnePlace::False => Ok(false_drafts(alloc, &*bank, p)),
+        OnePlace::Refl => Ok(refl_drafts(alloc, &*bank, p)),
+        OnePlace::ImpPos => Ok(imp_pos_drafts(alloc, &*bank, p)?),
+        OnePlace::ImpNeg => Ok(imp_neg_drafts(alloc, &*bank, p)?),
+        OnePlace::BoolPos => Ok(bool_pos_drafts(alloc, &*bank, p)?),
+        OnePlace::BoolNeg => Ok(bool_neg_drafts(alloc, &*bank, p)?),
+        OnePlace::FunPos => Ok(fun_pos_drafts(alloc, bank, p)?),
+        OnePlace::FunNeg => Ok(fun_neg_drafts(alloc, bank, p)?),
+        OnePlace::AllNeg => unreachable!(),
+        OnePlace::Dec => Ok(dec_drafts(alloc, bank, p)?),
     }
 }
 
-fn by_two(
+fn at_two(
     alloc: Global,
     bank: &mut Bank,
     lits: &LitTable,
-    kind: RuleKind,
+    rule: TwoPlaces,
     first: SatLit,
     second: SatLit,
 ) -> Result<Option<Drafts>, AllocError>
     requires first { first.var.0 < length lits.now }
     requires second { second.var.0 < length lits.now }
     requires atoms { All (IsAtom bank.old) lits.now }
-    ensures drafted { IfOk result (λ o. (rows : List Row) → DraftedBy bank.new lits.now rows (record { kind = kind; first = Some first; second = Some second; term = None }) o) }
+    ensures drafted { IfOk result (λ o. (rows : List Row) → DraftedBy bank.new lits.now rows (AtTwo rule first second) o) }
     ensures grows { Grows bank.old bank.new }
 {
     let p = principal_of(&*bank, lits, first);
     let q = principal_of(&*bank, lits, second);
-    match kind {
-        RuleKind::Close => Ok(close_drafts(alloc, &*bank, p, q)),
-        RuleKind::Mat => Ok(mat_drafts(alloc, bank, p, q)?),
-        RuleKind::Con => Ok(con_drafts(alloc, bank, p, q)?),
-        _ => Ok(None),
+    match rule {
+        TwoPlaces::Close => Ok(close_drafts(alloc, &*bank, p, q)),
+        TwoPlaces::Mat => Ok(mat_drafts(alloc, bank, p, q)?),
+        TwoPlaces::Con => Ok(con_drafts(alloc, bank, p, q)?),
     }
 }
 
-fn by_one_and_term(
+fn all_pos(
     alloc: Global,
     bank: &mut Bank,
     normal: &mut Normaliser,
     lits: &LitTable,
-    kind: RuleKind,
     lit: SatLit,
     term: Id,
 ) -> Result<Option<Drafts>, AllocError>
@@ -96,37 +95,40 @@ fn by_one_and_term(
     requires term { term < length bank.old.terms }
     requires atoms { All (IsAtom bank.old) lits.now }
     requires right { IsRightNormaliser normal.old bank.old }
-    ensures drafted { IfOk result (λ o. (rows : List Row) → DraftedBy bank.new lits.now rows (record { kind = kind; first = Some lit; second = None; term = Some term }) o) }
+    ensures drafted { IfOk result (λ o. (rows : List Row) → DraftedBy bank.new lits.now rows (AllPos lit term) o) }
     ensures grows { Grows bank.old bank.new }
     ensures right { IsRightNormaliser normal.new bank.new }
 {
-    match kind {
-        RuleKind::AllPos => {
-            let p = principal_of(&*bank, lits, lit);
-            Ok(all_pos_drafts(alloc, bank, normal, p, term)?)
-        }
-        _ => Ok(None),
-    }
+    let p = principal_of(&*bank, lits, lit);
+    Ok(all_pos_drafts(alloc, bank, normal, p, term)?)
 }
 
-fn by_term(
+fn with_predicate(
     alloc: Global,
     bank: &mut Bank,
     normal: &mut Normaliser,
-    kind: RuleKind,
+    rule: OfPredicate,
     term: Id,
 ) -> Result<Option<Drafts>, AllocError>
     requires term { term < length bank.old.terms }
     requires right { IsRightNormaliser normal.old bank.old }
-    ensures drafted { IfOk result (λ o. (atoms : List ℕ) (rows : List Row) → DraftedBy bank.new atoms rows (record { kind = kind; first = None; second = None; term = Some term }) o) }
+    ensures drafted { IfOk result (λ o. (atoms : List ℕ) (rows : List Row) → DraftedBy bank.new atoms rows (WithPredicate rule term) o) }
     ensures grows { Grows bank.old bank.new }
     ensures right { IsRightNormaliser normal.new bank.new }
 {
-    match kind {
-        RuleKind::Cho => Ok(cho_drafts(alloc, bank, normal, term)?),
-        RuleKind::Des => Ok(des_drafts(alloc, bank, normal, term)?),
-        _ => Ok(None),
+    match rule {
+        OfPredicate::Cho => Ok(cho_drafts(alloc, bank, normal, term)?),
+        OfPredicate::Des => Ok(des_drafts(alloc, bank, normal, term)?),
     }
+}
+
+fn cut(alloc: Global, bank: &Bank, lits: &LitTable, lit: SatLit) -> Result<Drafts, AllocError>
+    requires number { lit.var.0 < length lits.now }
+    requires atoms { All (IsAtom bank.now) lits.now }
+    ensures { IfOk result (λ ds. (rows : List Row) → DraftedBy bank.now lits.now rows (Cut lit) (Some ds)) }
+{
+    let p = principal_of(bank, lits, lit);
+    Ok(cut_drafts(alloc, bank, p)?)
 }
 
 /// The drafts of a rule that makes no witness.
@@ -137,47 +139,38 @@ fn unwitnessed_drafts(
     lits: &LitTable,
     by: &BankUse,
 ) -> Result<Option<Drafts>, AllocError>
-    requires kind { MakesNoWitness by.now }
-    requires first { ForSome by.now.first (λ l. l.var.0 < length lits.now) }
-    requires second { ForSome by.now.second (λ l. l.var.0 < length lits.now) }
-    requires term { ForSome by.now.term (λ id. id < length bank.old.terms) }
+    requires unwitnessed { denial_of by.now ≡ None }
+    requires principals { Each (λ l. l.var.0 < length lits.now) (principals_of by.now) }
+    requires parts { EachPart (λ id. id < length bank.old.terms) (λ l. l.var.0 < length lits.now) by.now }
     requires atoms { All (IsAtom bank.old) lits.now }
     requires right { IsRightNormaliser normal.old bank.old }
     ensures drafted { IfOk result (λ o. (rows : List Row) → DraftedBy bank.new lits.now rows by.now o) }
     ensures grows { Grows bank.old bank.new }
     ensures right { IsRightNormaliser normal.new bank.new }
 {
-    match by.first {
-        Some(first) => match by.second {
-            Some(second) => match by.term {
-                Some(_) => Ok(None),
-                None => Ok(by_two(alloc, bank, lits, by.kind, first, second)?),
-            },
-            None => match by.term {
-                Some(term) => Ok(by_one_and_term(alloc, bank, normal, lits, by.kind, first, term)?),
-                None => Ok(by_one(alloc, bank, lits, by.kind, first)?),
-            },
-        },
-        None => match by.second {
-            Some(_) => Ok(None),
-            None => match by.term {
-                Some(term) => Ok(by_term(alloc, bank, normal, by.kind, term)?),
-                None => Ok(None),
-            },
-        },
+    match by {
+        RuleUse::AtOne(rule, lit) => Ok(at_one(alloc, bank, lits, *rule, *lit)?),
+        RuleUse::AtTwo(rule, first, second) => {
+            Ok(at_two(alloc, bank, lits, *rule, *first, *second)?)
+        }
+        RuleUse::AllPos(lit, term) => Ok(all_pos(alloc, bank, normal, lits, *lit, *term)?),
+        RuleUse::WithPredicate(rule, term) => {
+            Ok(with_predicate(alloc, bank, normal, *rule, *term)?)
+        }
+        RuleUse::Cut(lit) => Ok(Some(cut(alloc, &*bank, lits, *lit)?)),
     }
 }
 
-/// The literal that the rule takes, where it takes nothing else.
-fn only_first(by: &BankUse) -> Option<SatLit>
-    ensures { IsOnlyFirst by.now result }
+/// The principal of the rule that makes a witness.
+fn denial(by: &BankUse) -> Option<SatLit>
+    ensures { IsDenialOf by.now result }
 {
-    match by.second {
-        Some(_) => None,
-        None => match by.term {
-            Some(_) => None,
-            None => by.first,
+    match by {
+        RuleUse::AtOne(rule, lit) => match rule {
+            OnePlace::AllNeg => Some(*lit),
+            _ => None,
         },
+        _ => None,
     }
 }
 
@@ -188,30 +181,24 @@ fn witnessed_drafts(
     normal: &mut Normaliser,
     lits: &LitTable,
     witnesses: &mut Witnesses,
-    by: &BankUse,
+    lit: SatLit,
 ) -> Result<Option<Drafts>, AllocError>
-    requires kind { by.now.kind ≡ AllNeg }
-    requires first { ForSome by.now.first (λ l. l.var.0 < length lits.now) }
+    requires number { lit.var.0 < length lits.now }
     requires atoms { All (IsAtom bank.old) lits.now }
     requires right { IsRightNormaliser normal.old bank.old }
     requires few { length witnesses.old < 2 ^ 32 - 1 }
     requires rows { AreRows bank.old witnesses.old }
     requires all { AreDeclaredIn bank.old witnesses.old }
-    ensures drafted { IfOk result (DraftedBy bank.new lits.now (rows_of bank.new.terms witnesses.new) by.now) }
-    ensures witnesses { IfOk result (WitnessesWhere bank.new lits.now by.now witnesses.old witnesses.new) }
-    ensures err { OnErr result ((witnesses.new ≡ witnesses.old) ⊎ AreWitnessesBy bank.new lits.now by.now witnesses.old witnesses.new) }
+    ensures drafted { IfOk result (DraftedBy bank.new lits.now (rows_of bank.new.terms witnesses.new) (AtOne AllNeg lit)) }
+    ensures witnesses { IfOk result (WitnessesWhere bank.new lits.now (AtOne AllNeg lit) witnesses.old witnesses.new) }
+    ensures err { OnErr result ((witnesses.new ≡ witnesses.old) ⊎ AreWitnessesBy bank.new lits.now (AtOne AllNeg lit) witnesses.old witnesses.new) }
     ensures widens { Widens bank.old bank.new }
     ensures right { IsRightNormaliser normal.new bank.new }
     ensures rows { AreRows bank.new witnesses.new }
     ensures all { OnOk result (AreDeclaredIn bank.new witnesses.new) }
 {
-    match only_first(by) {
-        Some(first) => {
-            let p = principal_of(&*bank, lits, first);
-            Ok(all_neg_drafts(alloc, bank, normal, witnesses, p)?)
-        }
-        None => Ok(None),
-    }
+    let p = principal_of(&*bank, lits, lit);
+    Ok(all_neg_drafts(alloc, bank, normal, witnesses, p)?)
 }
 
 /// The alternatives of the rule's instance, where it has one. The one rule that makes a witness does so.
@@ -223,9 +210,8 @@ pub(crate) fn drafts_of(
     witnesses: &mut Witnesses,
     by: &BankUse,
 ) -> Result<Option<Drafts>, AllocError>
-    requires first { ForSome by.now.first (λ l. l.var.0 < length lits.now) }
-    requires second { ForSome by.now.second (λ l. l.var.0 < length lits.now) }
-    requires term { ForSome by.now.term (λ id. id < length bank.old.terms) }
+    requires principals { Each (λ l. l.var.0 < length lits.now) (principals_of by.now) }
+    requires parts { EachPart (λ id. id < length bank.old.terms) (λ l. l.var.0 < length lits.now) by.now }
     requires atoms { All (IsAtom bank.old) lits.now }
     requires right { IsRightNormaliser normal.old bank.old }
     requires few { length witnesses.old < 2 ^ 32 - 1 }
@@ -239,8 +225,8 @@ pub(crate) fn drafts_of(
     ensures rows { AreRows bank.new witnesses.new }
     ensures all { OnOk result (AreDeclaredIn bank.new witnesses.new) }
 {
-    match by.kind {
-        RuleKind::AllNeg => Ok(witnessed_drafts(alloc, bank, normal, lits, witnesses, by)?),
-        _ => Ok(unwitnessed_drafts(alloc, bank, normal, lits, by)?),
+    match denial(by) {
+        Some(lit) => Ok(witnessed_drafts(alloc, bank, normal, lits, witnesses, lit)?),
+        None => Ok(unwitnessed_drafts(alloc, bank, normal, lits, by)?),
     }
 }

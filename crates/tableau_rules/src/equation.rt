@@ -4,7 +4,9 @@ ghost use Rattle.stt_core.specs.Lambda.{eq};
 ghost use Rattle.stt_core.specs.SimpleType.{base};
 ghost use Rattle.stt_core.specs.View.{the_type};
 ghost use Rattle.tableau_calculus.specs.Witnesses.{Row};
-ghost use Rattle.tableau_calculus.specs.declared.refutation.RuleUse.TheVariants.{Refl, BoolPos, BoolNeg, Con};
+ghost use Rattle.tableau_calculus.specs.declared.rule_use.OnePlace.TheVariants.{Refl, BoolPos, BoolNeg};
+ghost use Rattle.tableau_calculus.specs.declared.rule_use.TwoPlaces.TheVariants.{Con};
+ghost use Rattle.tableau_calculus.specs.declared.rule_use.RuleUse.TheVariants.{AtOne, AtTwo};
 ghost use Rattle.term_bank.specs.Content.{Grows, HasTerm};
 ghost use Rattle.term_bank.specs.Terms.{term_at};
 ghost use Rattle.tableau_rules.specs.Internal.Drafted.{IsPrincipal, Drafted, DifferFromBoth};
@@ -18,7 +20,7 @@ use term_bank::{Bank, Id};
 
 pub(crate) fn refl_drafts(alloc: Global, bank: &Bank, p: Principal) -> Option<Drafts>
     requires { IsPrincipal bank.now p }
-    ensures { (rows : List Row) → Drafted bank.now rows (p ∷ []) (Refl 0) result }
+    ensures { (rows : List Row) → Drafted bank.now rows (p ∷ []) (AtOne Refl 0) result }
 {
     if p.positive {
         return None;
@@ -41,7 +43,7 @@ pub(crate) fn bool_pos_drafts(
     p: Principal,
 ) -> Result<Option<Drafts>, AllocError>
     requires { IsPrincipal bank.now p }
-    ensures { IfOk result (λ o. (rows : List Row) → Drafted bank.now rows (p ∷ []) (BoolPos 0) o) }
+    ensures { IfOk result (λ o. (rows : List Row) → Drafted bank.now rows (p ∷ []) (AtOne BoolPos 0) o) }
 {
     if !p.positive {
         return Ok(None);
@@ -66,7 +68,7 @@ pub(crate) fn bool_neg_drafts(
     p: Principal,
 ) -> Result<Option<Drafts>, AllocError>
     requires { IsPrincipal bank.now p }
-    ensures { IfOk result (λ o. (rows : List Row) → Drafted bank.now rows (p ∷ []) (BoolNeg 0) o) }
+    ensures { IfOk result (λ o. (rows : List Row) → Drafted bank.now rows (p ∷ []) (AtOne BoolNeg 0) o) }
 {
     if p.positive {
         return Ok(None);
@@ -156,7 +158,7 @@ pub(crate) fn con_drafts(
 ) -> Result<Option<Drafts>, AllocError>
     requires first { IsPrincipal bank.old p }
     requires second { IsPrincipal bank.old q }
-    ensures drafted { IfOk result (λ o. (rows : List Row) → Drafted bank.new rows (p ∷ q ∷ []) (Con 0 1) o) }
+    ensures drafted { IfOk result (λ o. (rows : List Row) → Drafted bank.new rows (p ∷ q ∷ []) (AtTwo Con 0 1) o) }
     ensures grows { Grows bank.old bank.new }
 {
     if !p.positive {

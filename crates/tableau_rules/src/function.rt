@@ -4,7 +4,8 @@ ghost use Rattle.stt_core.specs.View.{the_type};
 ghost use Rattle.stt_core.specs.Lambda.{every, lam};
 ghost use Rattle.tableau_calculus.specs.Rules.{at_new, agreement, nowhere};
 ghost use Rattle.tableau_calculus.specs.Witnesses.{Row};
-ghost use Rattle.tableau_calculus.specs.declared.refutation.RuleUse.TheVariants.{FunPos, FunNeg};
+ghost use Rattle.tableau_calculus.specs.declared.rule_use.OnePlace.TheVariants.{FunPos, FunNeg};
+ghost use Rattle.tableau_calculus.specs.declared.rule_use.RuleUse.TheVariants.{AtOne};
 ghost use Rattle.term_bank.specs.Content.{Grows, HasTerm};
 ghost use Rattle.term_bank.specs.Terms.{term_at};
 ghost use Rattle.tableau_rules.specs.Internal.Drafted.{IsPrincipal, Drafted};
@@ -105,7 +106,7 @@ pub(crate) fn fun_pos_drafts(
     p: Principal,
 ) -> Result<Option<Drafts>, AllocError>
     requires { IsPrincipal bank.old p }
-    ensures drafted { IfOk result (λ o. (rows : List Row) → Drafted bank.new rows (p ∷ []) (FunPos 0) o) }
+    ensures drafted { IfOk result (λ o. (rows : List Row) → Drafted bank.new rows (p ∷ []) (AtOne FunPos 0) o) }
     ensures grows { Grows bank.old bank.new }
 {
     if !p.positive {
@@ -126,7 +127,7 @@ pub(crate) fn fun_neg_drafts(
     p: Principal,
 ) -> Result<Option<Drafts>, AllocError>
     requires { IsPrincipal bank.old p }
-    ensures drafted { IfOk result (λ o. (rows : List Row) → Drafted bank.new rows (p ∷ []) (FunNeg 0) o) }
+    ensures drafted { IfOk result (λ o. (rows : List Row) → Drafted bank.new rows (p ∷ []) (AtOne FunNeg 0) o) }
     ensures grows { Grows bank.old bank.new }
 {
     if p.positive {

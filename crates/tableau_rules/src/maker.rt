@@ -1,13 +1,13 @@
 //! Instances of rules.
-ghost use Rattle.std.specs.Prelude.{◌≡◌, ◌<◌, ◌-◌, ◌^◌, ◌++◌, List, length, map, All, Err, IfOk, IfErr, OnOk, OnErr, option_to_list};
-ghost use Rattle.std.specs.Option.{ForSome};
+ghost use Rattle.std.specs.Prelude.{◌≡◌, ◌<◌, ◌-◌, ◌^◌, ◌++◌, List, length, map, All, Err, IfOk, IfErr, OnOk, OnErr};
 ghost use Rattle.tableau_calculus.specs.Literals.{Literal};
+ghost use Rattle.tableau_calculus.specs.RuleUses.{principals_of, EachPart};
 ghost use Rattle.tableau_calculus.specs.Witnesses.{Row};
 ghost use Rattle.bank_normal.specs.Right.{IsRightNormaliser};
 ghost use Rattle.literal_map.specs.Atoms.{bank_literal, IsAtom, Begins};
 ghost use Rattle.witness_names.specs.Rows.{rows_of, AreRows};
 ghost use Rattle.search_spec.specs.Each.{Each};
-ghost use Rattle.tableau_rules.specs.Uses.{principals_of, IsInstanceBy};
+ghost use Rattle.tableau_rules.specs.Uses.{IsInstanceBy};
 ghost use Rattle.tableau_rules.specs.Changes.{Widens, AreWitnessesBy, LeavesWitnesses};
 ghost use Rattle.tableau_rules.specs.Internal.Drafted.{alternatives_at};
 ghost use Rattle.tableau_rules.specs.Internal.Made.{AreDraftsOf};
@@ -20,34 +20,27 @@ use crate::number::number_drafts;
 use crate::refusal::RuleRefused;
 use crate::witness::declare;
 use bank_normal::Normaliser;
-use literal_map::{BankUse, Instance, LitList, LitLists, LitTable, RuleKind};
-use sat_base::SatLit;
+use literal_map::{BankUse, Instance, LitList, LitLists, LitTable};
 use std::alloc::{AllocError, Global};
+use tableau_calculus::RuleUse;
 use term_bank::Bank;
 use witness_names::Witnesses;
 
-fn push_if_some(list: &mut LitList, lit: Option<SatLit>) -> Result<(), AllocError>
-    ensures { OnOk result (list.new ≡ list.old ++ option_to_list lit) }
-{
-    if let Some(lit) = lit {
-        list.push(lit)?;
-    }
-    Ok(())
-}
-
-/// The principals of a rule. What a cut takes is none.
+/// The principals of a rule.
 fn principals(alloc: Global, by: &BankUse) -> Result<LitList, AllocError>
     ensures { IfOk result (λ list. list ≡ principals_of by.now) }
 {
     let mut list = LitList::new(alloc);
-    match by.kind {
-        RuleKind::Cut => Ok(list),
-        _ => {
-            push_if_some(&mut list, by.first)?;
-            push_if_some(&mut list, by.second)?;
-            Ok(list)
+    match by {
+        RuleUse::AtOne(_, lit) => list.push(*lit)?,
+        RuleUse::AtTwo(_, first, second) => {
+            list.push(*first)?;
+            list.push(*second)?;
         }
+        RuleUse::AllPos(lit, _) => list.push(*lit)?,
+        RuleUse::WithPredicate(_, _) | RuleUse::Cut(_) => {}
     }
+    Ok(list)
 }
 
 /// The drafts with numbers for their formulas. Where memory runs out no formula gets a number.
@@ -82,8 +75,7 @@ fn instance_of(
     by: &BankUse,
     drafts: &Drafts,
 ) -> Result<Instance, AllocError>
-    requires first { ForSome by.now.first (λ l. l.var.0 < length lits.old) }
-    requires second { ForSome by.now.second (λ l. l.var.0 < length lits.old) }
+    requires principals { Each (λ l. l.var.0 < length lits.old) (principals_of by.now) }
     requires atoms { All (IsAtom bank.now) lits.old }
     requires drafts { AreDraftsOf bank.now lits.old by.now drafts.now }
     ensures by { IfOk result (λ i. i.by ≡ by.now) }
@@ -98,7 +90,7 @@ fn instance_of(
     let principals = principals(alloc, by)?;
     let alternatives = number_all(alloc, bank, lits, drafts)?;
     Ok(Instance {
-        by: *by,
+        by: by.copied(),
         principals,
         alternatives,
     })
@@ -114,9 +106,8 @@ pub fn make(
     witnesses: &mut Witnesses,
     by: &BankUse,
 ) -> Result<Instance, RuleRefused>
-    requires first { ForSome by.now.first (λ l. l.var.0 < length lits.old) }
-    requires second { ForSome by.now.second (λ l. l.var.0 < length lits.old) }
-    requires term { ForSome by.now.term (λ id. id < length bank.old.terms) }
+    requires principals { Each (λ l. l.var.0 < length lits.old) (principals_of by.now) }
+    requires parts { EachPart (λ id. id < length bank.old.terms) (λ l. l.var.0 < length lits.old) by.now }
     requires atoms { All (IsAtom bank.old) lits.old }
     requires right { IsRightNormaliser normal.old bank.old }
     requires rows { AreRows bank.old witnesses.old }

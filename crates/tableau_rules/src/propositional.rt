@@ -1,7 +1,9 @@
 //! Falsity, a literal and its negation, implications and the cut.
 ghost use Rattle.std.specs.Prelude.{[], ◌∷◌, List, Some, IfOk};
 ghost use Rattle.tableau_calculus.specs.Witnesses.{Row};
-ghost use Rattle.tableau_calculus.specs.declared.refutation.RuleUse.TheVariants.{False, Close, ImpPos, ImpNeg, Cut};
+ghost use Rattle.tableau_calculus.specs.declared.rule_use.OnePlace.TheVariants.{False, ImpPos, ImpNeg};
+ghost use Rattle.tableau_calculus.specs.declared.rule_use.TwoPlaces.TheVariants.{Close};
+ghost use Rattle.tableau_calculus.specs.declared.rule_use.RuleUse.TheVariants.{AtOne, AtTwo, Cut};
 ghost use Rattle.tableau_rules.specs.Internal.Drafted.{principal_at, IsPrincipal, Drafted};
 
 use crate::draft::{Drafts, Principal, Signed, both, either, fails, holds};
@@ -11,7 +13,7 @@ use term_bank::Bank;
 
 pub(crate) fn false_drafts(alloc: Global, bank: &Bank, p: Principal) -> Option<Drafts>
     requires { IsPrincipal bank.now p }
-    ensures { (rows : List Row) → Drafted bank.now rows (p ∷ []) (False 0) result }
+    ensures { (rows : List Row) → Drafted bank.now rows (p ∷ []) (AtOne False 0) result }
 {
     if p.positive {
         if is_falsity(bank, p.atom) {
@@ -24,7 +26,7 @@ pub(crate) fn false_drafts(alloc: Global, bank: &Bank, p: Principal) -> Option<D
 pub(crate) fn close_drafts(alloc: Global, bank: &Bank, p: Principal, q: Principal) -> Option<Drafts>
     requires first { IsPrincipal bank.now p }
     requires second { IsPrincipal bank.now q }
-    ensures { (rows : List Row) → Drafted bank.now rows (p ∷ q ∷ []) (Close 0 1) result }
+    ensures { (rows : List Row) → Drafted bank.now rows (p ∷ q ∷ []) (AtTwo Close 0 1) result }
 {
     if p.positive == q.positive {
         return None;
@@ -42,7 +44,7 @@ pub(crate) fn imp_pos_drafts(
     p: Principal,
 ) -> Result<Option<Drafts>, AllocError>
     requires { IsPrincipal bank.now p }
-    ensures { IfOk result (λ o. (rows : List Row) → Drafted bank.now rows (p ∷ []) (ImpPos 0) o) }
+    ensures { IfOk result (λ o. (rows : List Row) → Drafted bank.now rows (p ∷ []) (AtOne ImpPos 0) o) }
 {
     if !p.positive {
         return Ok(None);
@@ -59,7 +61,7 @@ pub(crate) fn imp_neg_drafts(
     p: Principal,
 ) -> Result<Option<Drafts>, AllocError>
     requires { IsPrincipal bank.now p }
-    ensures { IfOk result (λ o. (rows : List Row) → Drafted bank.now rows (p ∷ []) (ImpNeg 0) o) }
+    ensures { IfOk result (λ o. (rows : List Row) → Drafted bank.now rows (p ∷ []) (AtOne ImpNeg 0) o) }
 {
     if p.positive {
         return Ok(None);

@@ -3,7 +3,7 @@ ghost use Rattle.std.specs.Prelude.{◌≡◌, ◌<◌, ◌↔◌, [], ◌∷◌
 ghost use Rattle.stt_core.specs.Canonical.{IsCanonical};
 ghost use Rattle.stt_core.specs.View.{the_type};
 ghost use Rattle.tableau_calculus.specs.Witnesses.{Row};
-ghost use Rattle.tableau_calculus.specs.declared.refutation.RuleUse.TheVariants.{AllPos};
+ghost use Rattle.tableau_calculus.specs.declared.rule_use.RuleUse.TheVariants.{AllPos};
 ghost use Rattle.term_bank.specs.Content.{content_scope, Grows};
 ghost use Rattle.term_bank.specs.Terms.{term_at};
 ghost use Rattle.bank_normal.specs.Right.{IsRightNormaliser};

@@ -3,7 +3,9 @@ ghost use Rattle.std.specs.Prelude.{◌<◌, ◌↔◌, ◌∷◌, [], List, len
 ghost use Rattle.stt_core.specs.View.{the_head};
 ghost use Rattle.tableau_calculus.specs.Internal.Heads.{IsDecomposedHead};
 ghost use Rattle.tableau_calculus.specs.Witnesses.{Row};
-ghost use Rattle.tableau_calculus.specs.declared.refutation.RuleUse.TheVariants.{Mat, Dec};
+ghost use Rattle.tableau_calculus.specs.declared.rule_use.OnePlace.TheVariants.{Dec};
+ghost use Rattle.tableau_calculus.specs.declared.rule_use.TwoPlaces.TheVariants.{Mat};
+ghost use Rattle.tableau_calculus.specs.declared.rule_use.RuleUse.TheVariants.{AtOne, AtTwo};
 ghost use Rattle.term_bank.specs.Content.{Grows};
 ghost use Rattle.term_bank.specs.Terms.{term_at};
 ghost use Rattle.stt_core.specs.SimpleType.{SimpleType};
@@ -121,7 +123,7 @@ pub(crate) fn mat_drafts(
 ) -> Result<Option<Drafts>, AllocError>
     requires first { IsPrincipal bank.old p }
     requires second { IsPrincipal bank.old q }
-    ensures drafted { IfOk result (λ o. (rows : List Row) → Drafted bank.new rows (p ∷ q ∷ []) (Mat 0 1) o) }
+    ensures drafted { IfOk result (λ o. (rows : List Row) → Drafted bank.new rows (p ∷ q ∷ []) (AtTwo Mat 0 1) o) }
     ensures grows { Grows bank.old bank.new }
 {
     if !p.positive || q.positive {
@@ -136,7 +138,7 @@ pub(crate) fn dec_drafts(
     p: Principal,
 ) -> Result<Option<Drafts>, AllocError>
     requires { IsPrincipal bank.old p }
-    ensures drafted { IfOk result (λ o. (rows : List Row) → Drafted bank.new rows (p ∷ []) (Dec 0) o) }
+    ensures drafted { IfOk result (λ o. (rows : List Row) → Drafted bank.new rows (p ∷ []) (AtOne Dec 0) o) }
     ensures grows { Grows bank.old bank.new }
 {
     if p.positive {

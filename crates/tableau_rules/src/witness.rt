@@ -1,7 +1,8 @@
 //! Witnesses and their types, and the rule for what doesn't hold everywhere.
 ghost use Rattle.std.specs.Prelude.{◌≡◌, ◌<◌, ◌-◌, ◌+◌, ◌^◌, [], ◌∷◌, length, Some, slice_get, IfOk, OnOk, OnErr, ◌⊎◌};
 ghost use Rattle.stt_core.specs.View.{the_type};
-ghost use Rattle.tableau_calculus.specs.declared.refutation.RuleUse.TheVariants.{AllNeg};
+ghost use Rattle.tableau_calculus.specs.declared.rule_use.OnePlace.TheVariants.{AllNeg};
+ghost use Rattle.tableau_calculus.specs.declared.rule_use.RuleUse.TheVariants.{AtOne};
 ghost use Rattle.bank_normal.specs.Right.{IsRightNormaliser};
 ghost use Rattle.witness_names.specs.Rows.{rows_of, AreRows, with_predicate};
 ghost use Rattle.tableau_rules.specs.Changes.{Widens};
@@ -91,7 +92,7 @@ pub(crate) fn all_neg_drafts(
     requires few { length witnesses.old < 2 ^ 32 - 1 }
     requires rows { AreRows bank.old witnesses.old }
     requires all { AreDeclaredIn bank.old witnesses.old }
-    ensures drafted { IfOk result (DraftedOver bank.new (rows_of bank.new.terms witnesses.new) (p ∷ []) (AllNeg 0)) }
+    ensures drafted { IfOk result (DraftedOver bank.new (rows_of bank.new.terms witnesses.new) (p ∷ []) (AtOne AllNeg 0)) }
     ensures witnesses { IfOk result (WitnessedWhere bank.new p witnesses.old witnesses.new) }
     ensures err { OnErr result (MayBeWitnessed bank.new p witnesses.old witnesses.new) }
     ensures widens { Widens bank.old bank.new }

@@ -10,7 +10,7 @@ use std::alloc::{AllocError, Global};
 use std::str;
 use stt_core::{Head, Nf, Nfs, Problem, Signature, Types};
 use stt_tableau::{accepts_plain, start_literals};
-use tableau_calculus::{Children, Line, Lines, Lit, Lits, Refutation, Rows, RuleUse};
+use tableau_calculus::{Children, Line, Lines, Lit, Lits, OnePlace, Refutation, Rows, RuleUse};
 use thf_include::{FileNames, gather};
 use type_check::check;
 
@@ -41,7 +41,7 @@ fn refutation(alloc: Global, branch: Lits) -> Result<Refutation, AllocError> {
     let mut lines = Lines::new(alloc);
     lines.push(Line {
         branch,
-        rule: RuleUse::False(0),
+        rule: RuleUse::AtOne(OnePlace::False, 0),
         children: Children::new(alloc),
     })?;
     Ok(Refutation {

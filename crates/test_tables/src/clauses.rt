@@ -1,8 +1,9 @@
 //! The clauses of a confrontation, and clauses that are there already.
 
-use literal_map::{BankUse, Instance, LitList, LitLists, RuleKind};
+use literal_map::{Instance, LitList, LitLists};
 use sat_base::{SatLit, Var};
 use std::alloc::{AllocError, Global};
+use tableau_calculus::{RuleUse, TwoPlaces};
 use tableau_clauses::StepTable;
 
 fn lit(number: usize, positive: bool) -> SatLit {
@@ -37,12 +38,7 @@ pub fn confronted(
 ) -> Result<Instance, AllocError> {
     let principals = list(alloc, &[first, second])?;
     Ok(Instance {
-        by: BankUse {
-            kind: RuleKind::Con,
-            first: Some(first),
-            second: Some(second),
-            term: None,
-        },
+        by: RuleUse::AtTwo(TwoPlaces::Con, first, second),
         principals,
         alternatives,
     })
@@ -90,7 +86,8 @@ pub fn write_clauses(alloc: Global, out: &mut String) -> Result<(), AllocError> 
     }
     out.push(' ')?;
     for n in 0..steps.len() {
-        write_clause(steps.clause(n).as_slice(), out)?;
+        let clause = steps.clause(n)?;
+        write_clause(clause.as_slice(), out)?;
     }
     Ok(())
 }

@@ -1,9 +1,10 @@
 //! The tables in which instances are made.
 ghost use Rattle.std.specs.Prelude.{◌<◌, [], length, map, IfOk, IsTrue};
-ghost use Rattle.std.specs.Option.{ForSome};
+ghost use Rattle.search_spec.specs.Each.{Each};
 ghost use Rattle.stt_core.specs.Canonical.{IsCanonical};
 ghost use Rattle.stt_core.specs.SimpleType.{formula};
 ghost use Rattle.stt_core.specs.Typing.{AreDeclared};
+ghost use Rattle.tableau_calculus.specs.RuleUses.{principals_of, EachPart};
 ghost use Rattle.term_bank.specs.Content.{content_scope};
 ghost use Rattle.term_bank.specs.Terms.{term_at};
 ghost use Rattle.mating_rules.specs.Noted.{IsRightIndex};
@@ -17,6 +18,7 @@ use mating_rules::Index;
 use sat_base::SatLit;
 use std::alloc::{AllocError, Global};
 use stt_core::{Signature, Term, Ty, Types, type_of};
+use tableau_calculus::RuleUse;
 use tableau_rules::{RuleRefused, make};
 use term_bank::{Bank, Id};
 use witness_names::Witnesses;
@@ -111,21 +113,29 @@ impl Tables {
         }
     }
 
-    fn is_number(&self, lit: Option<SatLit>) -> bool
-        ensures { IsTrue result → ForSome lit (λ l. l.var.0 < length self.now.lits) }
+    fn is_number(&self, lit: SatLit) -> bool
+        ensures { IsTrue result → lit.var.0 < length self.now.lits }
     {
-        match lit {
-            Some(lit) => lit.var.0 < self.lits.len(),
-            None => true,
-        }
+        lit.var.0 < self.lits.len()
     }
 
-    fn is_place(&self, id: Option<Id>) -> bool
-        ensures { IsTrue result → ForSome id (λ i. i < length self.now.bank.terms) }
+    fn is_place(&self, id: Id) -> bool
+        ensures { IsTrue result → id < length self.now.bank.terms }
     {
-        match id {
-            Some(id) => (id as usize) < self.bank.len(),
-            None => true,
+        (id as usize) < self.bank.len()
+    }
+
+    /// Whether what the rule takes is there.
+    fn is_within(&self, by: &BankUse) -> bool
+        ensures principals { IsTrue result → Each (λ l. l.var.0 < length self.now.lits) (principals_of by.now) }
+        ensures parts { IsTrue result → EachPart (λ id. id < length self.now.bank.terms) (λ l. l.var.0 < length self.now.lits) by.now }
+    {
+        match by {
+            RuleUse::AtOne(_, lit) => self.is_number(*lit),
+            RuleUse::AtTwo(_, first, second) => self.is_number(*first) && self.is_number(*second),
+            RuleUse::AllPos(lit, term) => self.is_number(*lit) && self.is_place(*term),
+            RuleUse::WithPredicate(_, term) => self.is_place(*term),
+            RuleUse::Cut(lit) => self.is_number(*lit),
         }
     }
 
@@ -134,7 +144,7 @@ impl Tables {
         requires { AreSoundTables self.old }
         ensures { AreSoundTables self.new }
     {
-        if !self.is_number(by.first) || !self.is_number(by.second) || !self.is_place(by.term) {
+        if !self.is_within(by) {
             return Err(RowRefused::Unread);
         }
         if self.witnesses.len() == u32::MAX {
@@ -166,7 +176,7 @@ impl Tables {
         requires right { IsRightIndex self.now.bank.terms self.now.lits index.old }
     {
         for lit in noted.as_slice() {
-            if !self.is_number(Some(*lit)) {
+            if !self.is_number(*lit) {
                 return Err(RowRefused::Unread);
             }
             out.push(' ')?;
@@ -224,7 +234,7 @@ impl Tables {
     {
         let mut count: usize = 0;
         for lit in lits.as_slice() {
-            if !self.is_number(Some(*lit)) {
+            if !self.is_number(*lit) {
                 return Err(RowRefused::Unread);
             }
             let partners = index.note(&self.bank, &self.lits, *lit)?;

@@ -1,54 +1,44 @@
-//! Uses of rules, as texts: the rule, its principals or the literal of a cut, and the term that it takes.
+//! Uses of rules, as texts: the rule, and its principals with the term that it takes, a predicate, or the literal of a cut.
 ghost use Rattle.test_tables.specs.Sound.{AreSoundTables};
 
 use crate::refusal::RowRefused;
 use crate::tables::Tables;
-use literal_map::{BankUse, RuleKind};
+use literal_map::BankUse;
+use tableau_calculus::{OfPredicate, OnePlace, RuleUse, TwoPlaces};
 
-const KINDS: &[(&str, RuleKind)] = &[
-    ("False", RuleKind::False),
-    ("Close", RuleKind::Close),
-    ("Refl", RuleKind::Refl),
-    ("Imp+", RuleKind::ImpPos),
-    ("Imp-", RuleKind::ImpNeg),
-    ("Bool+", RuleKind::BoolPos),
-    ("Bool-", RuleKind::BoolNeg),
-    ("Fun+", RuleKind::FunPos),
-    ("Fun-", RuleKind::FunNeg),
-    ("All+", RuleKind::AllPos),
-    ("All-", RuleKind::AllNeg),
-    ("Mat", RuleKind::Mat),
-    ("Dec", RuleKind::Dec),
-    ("Con", RuleKind::Con),
-    ("Cho", RuleKind::Cho),
-    ("Des", RuleKind::Des),
-    ("Cut", RuleKind::Cut),
+const ONE: &[(&str, OnePlace)] = &[
+    ("False", OnePlace::False),
+    ("Refl", OnePlace::Refl),
+    ("Imp+", OnePlace::ImpPos),
+    ("Imp-", OnePlace::ImpNeg),
+    ("Bool+", OnePlace::BoolPos),
+    ("Bool-", OnePlace::BoolNeg),
+    ("Fun+", OnePlace::FunPos),
+    ("Fun-", OnePlace::FunNeg),
+    ("All-", OnePlace::AllNeg),
+    ("Dec", OnePlace::Dec),
 ];
 
-fn kind_of(name: &str) -> Result<RuleKind, RowRefused> {
-    for (text, kind) in KINDS {
+const TWO: &[(&str, TwoPlaces)] = &[
+    ("Close", TwoPlaces::Close),
+    ("Mat", TwoPlaces::Mat),
+    ("Con", TwoPlaces::Con),
+];
+
+const PREDICATE: &[(&str, OfPredicate)] = &[("Cho", OfPredicate::Cho), ("Des", OfPredicate::Des)];
+
+fn named<K: Copy>(rules: &[(&str, K)], name: &str) -> Option<K> {
+    for (text, rule) in rules {
         if *text == name {
-            return Ok(*kind);
+            return Some(*rule);
         }
     }
-    Err(RowRefused::Unread)
+    None
 }
 
-/// The use with one word more.
-fn with_word(tables: &mut Tables, by: BankUse, word: &str) -> Result<BankUse, RowRefused>
-    requires { AreSoundTables tables.old }
-    ensures { AreSoundTables tables.new }
-{
-    if !word.starts_with('+') && !word.starts_with('-') {
-        let term = Some(tables.term(word)?);
-        return Ok(BankUse { term, ..by });
-    }
-    let lit = Some(tables.signed(word)?);
-    if by.first.is_none() {
-        Ok(BankUse { first: lit, ..by })
-    } else {
-        Ok(BankUse { second: lit, ..by })
-    }
+/// Two words.
+fn two(words: &str) -> Result<(&str, &str), RowRefused> {
+    words.split_once(' ').ok_or(RowRefused::Unread)
 }
 
 /// The use that a text stands for.
@@ -56,15 +46,26 @@ pub fn use_of(tables: &mut Tables, text: &str) -> Result<BankUse, RowRefused>
     requires { AreSoundTables tables.old }
     ensures { AreSoundTables tables.new }
 {
-    let (name, words) = text.split_once(' ').ok_or(RowRefused::Unread)?;
-    let mut by = BankUse {
-        kind: kind_of(name)?,
-        first: None,
-        second: None,
-        term: None,
-    };
-    for word in words.split(' ') {
-        by = with_word(tables, by, word)?;
+    let (name, words) = two(text)?;
+    if let Some(rule) = named(ONE, name) {
+        return Ok(RuleUse::AtOne(rule, tables.signed(words)?));
     }
-    Ok(by)
+    if let Some(rule) = named(TWO, name) {
+        let (first, second) = two(words)?;
+        let first = tables.signed(first)?;
+        let second = tables.signed(second)?;
+        return Ok(RuleUse::AtTwo(rule, first, second));
+    }
+    if let Some(rule) = named(PREDICATE, name) {
+        return Ok(RuleUse::WithPredicate(rule, tables.term(words)?));
+    }
+    match name {
+        "All+" => {
+            let (first, term) = two(words)?;
+            let lit = tables.signed(first)?;
+            Ok(RuleUse::AllPos(lit, tables.term(term)?))
+        }
+        "Cut" => Ok(RuleUse::Cut(tables.signed(words)?)),
+        _ => Err(RowRefused::Unread),
+    }
 }

@@ -3,13 +3,13 @@ use Rattle.std.specs.Prelude.{◌≡◌, ◌<◌, ◌||◌, ◌⊎◌, ℕ, Bool
 use Rattle.std.specs.Ordering.{nat_cmp}
 use Rattle.std.specs.List.{list_any, All}
 use Rattle.std.specs.BTreeSet.{contains}
-use Rattle.tableau_calculus.specs.declared.refutation.RuleUse.TheVariants.{False}
 use Rattle.sat_base.specs.declared.literal.Var.{Var}
 use Rattle.sat_base.specs.declared.literal.SatLit.{SatLit}
 use Rattle.sat_base.specs.Literal.{negated, holds, mentions_variable, IsOver}
 use Rattle.search_spec.specs.Numbered.{numbers}
 use Rattle.literal_map.specs.declared.instance.Instance.{Instance as BankInstance}
 use Rattle.tableau_clauses.specs.Table.{Table}
+use Rattle.tableau_rebuild.specs.Tables.{no_rule}
 use Rattle.plain_tableau.specs.Trees.{TreeInstance}
 use Rattle.plain_tableau.specs.Expansion.{is_due}
 use Rattle.plain_tableau.specs.declared.due.Due.{Due}
@@ -17,8 +17,8 @@ use Rattle.plain_tableau.specs.declared.path.Path.{Path}
 
 -- an instance of the table without its rule, and one with nothing where there is none
 abbrev pub without_rule : Option BankInstance → TreeInstance SatLit
-without_rule (Some i) = record { rule = False 0; principals = i.principals; alternatives = i.alternatives }
-without_rule None = record { rule = False 0; principals = []; alternatives = [] }
+without_rule (Some i) = record { rule = no_rule; principals = i.principals; alternatives = i.alternatives }
+without_rule None = record { rule = no_rule; principals = []; alternatives = [] }
 
 abbrev pub at_number : Table → ℕ → TreeInstance SatLit
 at_number t k = without_rule (slice_get t.1 k)

@@ -1,12 +1,9 @@
--- What the work on a literal depends on, and what its rules take.
-use Rattle.std.specs.Prelude.{◌≡◌, zero, suc, Bool, not, ◌&&◌, Some, None}
+-- What the work on a literal depends on.
+use Rattle.std.specs.Prelude.{◌≡◌, zero, suc, Bool, not, ◌&&◌}
 use Rattle.stt_core.specs.SimpleType.{SimpleType, base, arrow}
 use Rattle.stt_core.specs.Lambda.{falsity, implication, all, equality, Lambda, constant, app, eq}
 use Rattle.tableau_calculus.specs.Literals.{Literal}
-use Rattle.sat_base.specs.declared.literal.SatLit.{SatLit}
 use Rattle.search_spec.specs.Partners.{has_equal_sides}
-use Rattle.literal_map.specs.declared.instance.BankUse.{BankUse}
-use Rattle.literal_map.specs.declared.instance.RuleKind.{RuleKind}
 use Rattle.prover_search.specs.declared.shape.Shape.{Shape}
 use Rattle.prover_search.specs.declared.shape.Shape.TheVariants.{Falsity, Implication, FormulaEquation, FunctionEquation, BaseEquation, Quantified, Other}
 
@@ -33,7 +30,3 @@ pub record IsEquated (t : Lambda) : Type 0 where
 -- whether the literal denies that a term equals itself
 abbrev pub denies_itself : Literal → Bool
 denies_itself l = not l.positive && has_equal_sides l.atom
-
--- a rule with one literal and nothing else
-abbrev pub lone_use : RuleKind → SatLit → BankUse
-lone_use rule lit = record { kind = rule; first = Some lit; second = None; term = None }

@@ -1,8 +1,17 @@
 -- How the reader of lines goes.
-use Rattle.std.specs.Prelude.{ℕ, ◌==◌, ◌^◌, length, Bool, true, false, List, [], ◌∷◌, codes, Option, Some, None, if◌then◌else◌}
+use Rattle.std.specs.Prelude.{ℕ, ◌==◌, ◌^◌, length, Bool, true, false, List, [], ◌∷◌, ◌++◌, codes, Option, Some, None, if◌then◌else◌}
 use Rattle.tableau_calculus.specs.declared.refutation.Child.{Child}
 use Rattle.tableau_calculus.specs.declared.refutation.Child.TheVariants.{Closed, Line as Numbered}
-use Rattle.refute_print.specs.Trees.{TermTree, LiteralTree, OnePlace, False, Refl, ImpPos, ImpNeg, BoolPos, BoolNeg, FunPos, FunNeg, AllNeg, Dec, TwoPlaces, Close, Mat, Con, OfPredicate, Cho, Des, RuleTree, at_one, at_two, with_instance, with_predicate, with_cut, LineTree}
+use Rattle.tableau_calculus.specs.declared.rule_use.OnePlace.{OnePlace}
+use Rattle.tableau_calculus.specs.declared.rule_use.OnePlace.TheVariants.{False, Refl, ImpPos, ImpNeg, BoolPos, BoolNeg, FunPos, FunNeg, AllNeg, Dec}
+use Rattle.tableau_calculus.specs.declared.rule_use.TwoPlaces.{TwoPlaces}
+use Rattle.tableau_calculus.specs.declared.rule_use.TwoPlaces.TheVariants.{Close, Mat, Con}
+use Rattle.tableau_calculus.specs.declared.rule_use.OfPredicate.{OfPredicate}
+use Rattle.tableau_calculus.specs.declared.rule_use.OfPredicate.TheVariants.{Cho, Des}
+use Rattle.tableau_calculus.specs.declared.rule_use.RuleUse.{RuleUse}
+use Rattle.tableau_calculus.specs.declared.rule_use.RuleUse.TheVariants.{AtOne, AtTwo, AllPos, WithPredicate, Cut}
+use Rattle.refute_print.specs.Trees.{TermTree, LiteralTree, LineTree}
+use Rattle.refute_print.specs.Text.{one_place_name, two_places_name, predicate_name}
 use Rattle.refute_print.specs.Limits.{is_negated_text, greatest_depth}
 use Rattle.refute_text.specs.Internal.Reader.{◌>>=◌, behind_text, by_front, number_at, name_at, repeated_at, with_items}
 use Rattle.refute_text.specs.Internal.TermReader.{term_text_at}
@@ -43,13 +52,37 @@ place_text_at bytes = do
   rest ← behind_text (codes ")") i.1
   Some (i.0, rest)
 
-abbrev pub RuleAt : Type 0
-RuleAt = Option (RuleTree × List ℕ)
+-- the first rule of the list whose name, with a parenthesis behind it, is at the front, and what follows
+abbrev pub named_first : {K : Type 0} → (K → List ℕ) → List K → List ℕ → Option (K × List ℕ)
+named_first name [] bytes = None
+named_first name (k ∷ ks) bytes = by_front (behind_text (name k ++ codes "(") bytes) (λ rest. Some (k, rest)) (named_first name ks bytes)
 
+abbrev pub one_place_rules : List OnePlace
+one_place_rules = False ∷ Refl ∷ ImpPos ∷ ImpNeg ∷ BoolPos ∷ BoolNeg ∷ FunPos ∷ FunNeg ∷ AllNeg ∷ Dec ∷ []
+
+abbrev pub two_places_rules : List TwoPlaces
+two_places_rules = Close ∷ Mat ∷ Con ∷ []
+
+abbrev pub predicate_rules : List OfPredicate
+predicate_rules = Cho ∷ Des ∷ []
+
+unfoldable pub one_place_named : List ℕ → Option (OnePlace × List ℕ)
+one_place_named bytes = named_first one_place_name one_place_rules bytes
+
+unfoldable pub two_places_named : List ℕ → Option (TwoPlaces × List ℕ)
+two_places_named bytes = named_first two_places_name two_places_rules bytes
+
+unfoldable pub predicate_named : List ℕ → Option (OfPredicate × List ℕ)
+predicate_named bytes = named_first predicate_name predicate_rules bytes
+
+abbrev pub RuleAt : Type 0
+RuleAt = Option (RuleUse ℕ TermTree LiteralTree × List ℕ)
+
+-- the rule, from what stands behind its name and the parenthesis on
 abbrev pub one_place_at : OnePlace → List ℕ → RuleAt
 one_place_at rule bytes = do
   i ← place_text_at bytes
-  Some (at_one rule i.0, i.1)
+  Some (AtOne rule i.0, i.1)
 
 -- two places with a comma between them, and the parenthesis behind them
 abbrev pub places_at : List ℕ → Option ((ℕ × ℕ) × List ℕ)
@@ -62,7 +95,7 @@ places_at bytes = do
 abbrev pub two_places_at : TwoPlaces → List ℕ → RuleAt
 two_places_at rule bytes = do
   p ← places_at bytes
-  Some (at_two rule p.0.0 p.0.1, p.1)
+  Some (AtTwo rule p.0.0 p.0.1, p.1)
 
 abbrev pub instance_at : List ℕ → RuleAt
 instance_at bytes = do
@@ -70,42 +103,26 @@ instance_at bytes = do
   rest ← behind_text (codes ";") i.1
   u ← term_text_at greatest_depth rest
   rest ← behind_text (codes ")") u.1
-  Some (with_instance i.0 u.0, rest)
+  Some (AllPos i.0 u.0, rest)
 
 abbrev pub predicate_at : OfPredicate → List ℕ → RuleAt
 predicate_at rule bytes = do
   f ← term_text_at greatest_depth bytes
   rest ← behind_text (codes ")") f.1
-  Some (with_predicate rule f.0, rest)
+  Some (WithPredicate rule f.0, rest)
 
 abbrev pub cut_at : List ℕ → RuleAt
 cut_at bytes = do
   l ← literal_text_at bytes
   rest ← behind_text (codes ")") l.1
-  Some (with_cut l.0, rest)
-
-unfoldable pub one_place_rule_at : List ℕ → RuleAt
-one_place_rule_at bytes =
-    by_front (behind_text (codes "False(") bytes) (one_place_at False)
-    (by_front (behind_text (codes "Refl(") bytes) (one_place_at Refl)
-    (by_front (behind_text (codes "Imp+(") bytes) (one_place_at ImpPos)
-    (by_front (behind_text (codes "Imp-(") bytes) (one_place_at ImpNeg)
-    (by_front (behind_text (codes "Bool+(") bytes) (one_place_at BoolPos)
-    (by_front (behind_text (codes "Bool-(") bytes) (one_place_at BoolNeg)
-    (by_front (behind_text (codes "Fun+(") bytes) (one_place_at FunPos)
-    (by_front (behind_text (codes "Fun-(") bytes) (one_place_at FunNeg)
-    (by_front (behind_text (codes "All-(") bytes) (one_place_at AllNeg)
-    (by_front (behind_text (codes "Dec(") bytes) (one_place_at Dec) None)))))))))
+  Some (Cut l.0, rest)
 
 unfoldable pub rule_at : List ℕ → RuleAt
 rule_at bytes =
-    by_front (behind_text (codes "Close(") bytes) (two_places_at Close)
-    (by_front (behind_text (codes "Mat(") bytes) (two_places_at Mat)
-    (by_front (behind_text (codes "Con(") bytes) (two_places_at Con)
-    (by_front (behind_text (codes "All+(") bytes) instance_at
-    (by_front (behind_text (codes "Cho(") bytes) (predicate_at Cho)
-    (by_front (behind_text (codes "Des(") bytes) (predicate_at Des)
-    (by_front (behind_text (codes "Cut(") bytes) cut_at (one_place_rule_at bytes)))))))
+    by_front (one_place_named bytes) (λ k. one_place_at k.0 k.1)
+    (by_front (two_places_named bytes) (λ k. two_places_at k.0 k.1)
+    (by_front (predicate_named bytes) (λ k. predicate_at k.0 k.1)
+    (by_front (behind_text (codes "All+(") bytes) instance_at (by_front (behind_text (codes "Cut(") bytes) cut_at None))))
 
 -- a number that is the wanted one
 abbrev pub where_number : ℕ → Option (ℕ × List ℕ) → Option (List ℕ)
@@ -154,10 +171,10 @@ behind_rule_at bytes = do
   children ← children_at branch.1
   Some (branch.0, children)
 
-abbrev pub with_lists : RuleTree → List LiteralTree × List Child → LineTree
+abbrev pub with_lists : RuleUse ℕ TermTree LiteralTree → List LiteralTree × List Child → LineTree
 with_lists rule lists = record { branch = lists.0; rule = rule; children = lists.1 }
 
-unfoldable pub lists_at : RuleTree → List ℕ → Option LineTree
+unfoldable pub lists_at : RuleUse ℕ TermTree LiteralTree → List ℕ → Option LineTree
 lists_at rule bytes = do
   lists ← behind_rule_at bytes
   Some (with_lists rule lists)

@@ -1,5 +1,5 @@
 -- How the reader goes: what stands at the front of bytes, and what follows it.
-use Rattle.std.specs.Prelude.{ℕ, zero, suc, ◌+◌, ◌-◌, ◌==◌, ◌||◌, ◌&&◌, not, nat_eq, nat_lt, drop, length, Bool, true, false, List, [], ◌∷◌, ◌++◌, codes, Option, Some, None, if◌then◌else◌}
+use Rattle.std.specs.Prelude.{ℕ, zero, suc, ◌==◌, ◌||◌, ◌&&◌, not, nat_eq, nat_lt, drop, length, Bool, true, false, List, [], ◌∷◌, ◌++◌, codes, Option, Some, None, if◌then◌else◌}
 use Rattle.std.specs.List.{starts_with}
 use Rattle.thf_grammar.specs.Bytes.{is_word_byte}
 use Rattle.thf_grammar.specs.Printable.{is_printable}
@@ -20,8 +20,8 @@ is_no_feed c = not (c == 10)
 abbrev pub behind_text : List ℕ → List ℕ → Option (List ℕ)
 behind_text text bytes = if starts_with nat_eq bytes text then Some (drop (length text) bytes) else None
 
--- what is read behind a text, or else without it
-abbrev pub by_front : {A : Type 0} → Option (List ℕ) → (List ℕ → Option A) → Option A → Option A
+-- what is read behind what is at the front, as a text, or else without it
+abbrev pub by_front : {A X : Type 0} → Option X → (X → Option A) → Option A → Option A
 by_front (Some rest) f other = f rest
 by_front None f other = other
 

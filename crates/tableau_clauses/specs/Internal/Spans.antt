@@ -24,7 +24,7 @@ AreSpans literals spans = All (λ span. span.start + span.len ≤ length literal
 -- an instance with its principals and, behind these, its alternatives
 abbrev pub with_lists : PackedInstance → List (List SatLit) → Instance
 with_lists i lists = record {
-  by = record { kind = i.kind; first = i.first; second = i.second; term = i.term };
+  by = i.by;
   principals = get_or lists 0 [];
   alternatives = drop 1 lists;
 }

@@ -1,7 +1,8 @@
 -- Lines by their drafts, their branches and the numbers of the lines before.
 use Rattle.std.specs.Prelude.{◌≡◌, ◌<◌, ℕ, List, [], ◌∷◌, map, length, Some, slice_get, slice_index_or}
 use Rattle.stt_core.specs.Lambda.{Lambda}
-use Rattle.tableau_calculus.specs.declared.refutation.RuleUse.TheVariants.{Close as CloseRule, Cut as CutRule}
+use Rattle.tableau_calculus.specs.declared.rule_use.RuleUse.TheVariants.{AtTwo, Cut as CutRule}
+use Rattle.tableau_calculus.specs.declared.rule_use.TwoPlaces.TheVariants.{Close as CloseRule}
 use Rattle.tableau_calculus.specs.declared.refutation.Child.TheVariants.{Closed, Line as Numbered}
 use Rattle.tableau_calculus.specs.declared.refutation.Line.{Line}
 use Rattle.sat_base.specs.declared.literal.Var.{Var}
@@ -40,7 +41,7 @@ instance_by atoms branch i =
     record { branch = literals_of atoms branch; rule = rule_at_places i.rule (map (place_in branch) i.principals); children = map (λ _. Closed) i.alternatives }
 
 abbrev pub close_by : List Lambda → List SatLit → Line
-close_by atoms branch = record { branch = literals_of atoms branch; rule = CloseRule 0 1; children = [] }
+close_by atoms branch = record { branch = literals_of atoms branch; rule = AtTwo CloseRule 0 1; children = [] }
 
 abbrev pub cut_by : List Lambda → List SatLit → Var → ℕ → ℕ → Line
 cut_by atoms branch v m n = record { branch = literals_of atoms branch; rule = CutRule (literal_at atoms (positive v)); children = Numbered m ∷ Numbered n ∷ [] }

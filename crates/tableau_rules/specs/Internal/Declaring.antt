@@ -4,8 +4,7 @@ use Rattle.stt_core.specs.SimpleType.{SimpleType}
 use Rattle.stt_core.specs.Lambda.{every}
 use Rattle.tableau_calculus.specs.Literals.{Literal, minus}
 use Rattle.tableau_calculus.specs.Witnesses.{Row}
-use Rattle.tableau_calculus.specs.Rules.{IsInstance}
-use Rattle.tableau_calculus.specs.declared.refutation.RuleUse.{RuleUse}
+use Rattle.tableau_calculus.specs.Rules.{PlainRule, IsInstance}
 use Rattle.term_bank.specs.Content.{Content, content_scope}
 use Rattle.term_bank.specs.Terms.{term_at}
 use Rattle.witness_names.specs.Rows.{rows_of, AreRows, with_predicate}
@@ -33,7 +32,7 @@ pub record IsWitnessed (b : Content) (p : Principal) (old new : List ℕ) : Type
   pub added : new ≡ with_predicate old predicate
 
 -- the drafts are the alternatives of the rule's instance over these rows, or it has none over any rows
-abbrev pub DraftedOver : Content → List Row → List Principal → RuleUse → Option (List (List Signed)) → Type 0
+abbrev pub DraftedOver : Content → List Row → List Principal → PlainRule → Option (List (List Signed)) → Type 0
 DraftedOver b rows ps rule (Some ds) = AreDraftedWithin b ds × IsInstance (content_scope b) rows (map (principal_at b) ps) rule (alternatives_at b ds)
 DraftedOver b rows ps rule None = (others : List Row) (as' : List (List Literal)) → IsInstance (content_scope b) others (map (principal_at b) ps) rule as' → ⊥
 

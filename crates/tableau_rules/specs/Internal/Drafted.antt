@@ -4,8 +4,7 @@ use Rattle.stt_core.specs.SimpleType.{SimpleType}
 use Rattle.stt_core.specs.Lambda.{eq}
 use Rattle.tableau_calculus.specs.Literals.{Literal, opposite, as_literal, IsLiteral}
 use Rattle.tableau_calculus.specs.Witnesses.{Row}
-use Rattle.tableau_calculus.specs.Rules.{IsInstance}
-use Rattle.tableau_calculus.specs.declared.refutation.RuleUse.{RuleUse}
+use Rattle.tableau_calculus.specs.Rules.{PlainRule, IsInstance}
 use Rattle.term_bank.specs.Content.{Content, content_scope, HasTerm}
 use Rattle.term_bank.specs.Terms.{term_at}
 use Rattle.tableau_rules.specs.declared.draft.Principal.{Principal}
@@ -37,7 +36,7 @@ AreDraftedWithin b [] = Unit {0}
 AreDraftedWithin b (draft ∷ drafts) = IsDraftedWithin b draft × AreDraftedWithin b drafts
 
 -- the drafts are the alternatives of the rule's instance with these principals, or it has none
-abbrev pub Drafted : Content → List Row → List Principal → RuleUse → Option (List (List Signed)) → Type 0
+abbrev pub Drafted : Content → List Row → List Principal → PlainRule → Option (List (List Signed)) → Type 0
 Drafted b rows ps rule (Some ds) = AreDraftedWithin b ds × IsInstance (content_scope b) rows (map (principal_at b) ps) rule (alternatives_at b ds)
 Drafted b rows ps rule None = (as' : List (List Literal)) → IsInstance (content_scope b) rows (map (principal_at b) ps) rule as' → ⊥
 

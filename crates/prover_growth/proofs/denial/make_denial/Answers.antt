@@ -1,11 +1,8 @@
 use Rattle.std.proofs.Common.{Err, map, ap, ◌∙◌}
 use Rattle.literal_map.specs.Atoms.{bank_literal}
 use Rattle.prover_state.specs.declared.tables.Basis.{Basis}
-use Rattle.prover_growth.proofs.DenialLaws.{denial-fits, denial-made, denial-widens, denied-rows, denied-alternatives, taken-first}
+use Rattle.prover_growth.proofs.DenialLaws.{denial-fits, denial-made, denial-widens, denied-rows, denied-alternatives}
 use Rattle.prover_growth.proofs.denial.make_denial.Goals as goal
-
-pub make-made-requires-clause-first : goal.make-made-requires-clause-first
-make-made-requires-clause-first c = taken-first c.args.basis.now.lits c.args.lit c.requires.number
 
 pub unreachable-requires : goal.unreachable-requires
 unreachable-requires c =

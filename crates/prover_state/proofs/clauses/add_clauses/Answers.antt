@@ -24,8 +24,8 @@ loop-n-init c = record {
 pub add-requires-in-loop-n : goal.add-requires-in-loop-n
 add-requires-in-loop-n c =
     let C : List (List SatLit) → Type 0 = λ cs. Each (Each (λ l. l.var.0 < c.args.atoms)) cs in
-    made-all c.args.atoms (length c.loop-n.solver.values) c.clause.result.now
-    (each-at (Each (λ l. l.var.0 < c.args.atoms)) (the_clauses c.add.new.self) c.loop-n.n c.clause.result.now (subst C (sym c.in_ok-new.ensures.clauses) c.requires.numbers) c.clause.ensures)
+    made-all c.args.atoms (length c.loop-n.solver.values) c.in_ok-clause.clause
+    (each-at (Each (λ l. l.var.0 < c.args.atoms)) (the_clauses c.add.new.self) c.loop-n.n c.in_ok-clause.clause (subst C (sym c.in_ok-new.ensures.clauses) c.requires.numbers) c.in_ok-clause.ensures)
     c.loop-n.invariant.made
 
 pub loop-n-preserved : goal.loop-n-preserved
@@ -33,8 +33,8 @@ loop-n-preserved c = record {
   made = let e = ap (λ (s : SolverState). length s.values) c.in_ok-add.ensures.ok in omega (arith, e, c.loop-n.invariant.made);
   same =
       ap (λ (s : SolverState). s.clauses) c.in_ok-add.ensures.ok
-      ∙ ap (λ cs. cs ++ c.clause.result.now ∷ []) c.loop-n.invariant.same
-      ∙ sym (take_got (the_clauses c.add.new.self) c.loop-n.n c.clause.result.now c.clause.ensures);
+      ∙ ap (λ cs. cs ++ c.in_ok-clause.clause ∷ []) c.loop-n.invariant.same
+      ∙ sym (take_got (the_clauses c.add.new.self) c.loop-n.n c.in_ok-clause.clause c.in_ok-clause.ensures);
   learned = ap (λ (s : SolverState). learned s) c.in_ok-add.ensures.ok ∙ c.loop-n.invariant.learned;
   log = ap (λ (s : SolverState). s.log) c.in_ok-add.ensures.ok ∙ c.loop-n.invariant.log;
 }

@@ -1,4 +1,4 @@
-use Rattle.std.proofs.Common.{subst, ap, ◌∙◌, ◌++◌, codes, decimal}
+use Rattle.std.proofs.Common.{subst, ◌++◌, codes, decimal}
 use Rattle.refute_print.specs.Text.{term_text}
 use Rattle.refute_print.specs.Named.{names_of, named_term}
 use Rattle.outside.specs.Writing.{Stopped}

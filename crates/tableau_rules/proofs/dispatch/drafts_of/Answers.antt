@@ -8,12 +8,12 @@ use Rattle.tableau_rules.proofs.UseLaws.{no_witness_by}
 use Rattle.tableau_rules.proofs.WitnessLaws.{on_err}
 use Rattle.tableau_rules.proofs.dispatch.drafts_of.Goals as goal
 
-pub returns-in_err-unwitnessed_drafts-in_default : goal.returns-in_err-unwitnessed_drafts-in_default
-returns-in_err-unwitnessed_drafts-in_default c =
+pub returns-in_err-unwitnessed_drafts-in-None : goal.returns-in_err-unwitnessed_drafts-in-None
+returns-in_err-unwitnessed_drafts-in-None c =
     let b = c.args.bank.now in
     let d = c.unwitnessed_drafts.new.bank in
     let g = c.unwitnessed_drafts.ensures.grows in
-    let refused = c.from_residual-in_err-unwitnessed_drafts-in_default.ensures.0 in
+    let refused = c.from_residual-in_err-unwitnessed_drafts-in-None.ensures.0 in
     record {
       drafted = IfOk-from_err _ _ refused;
       witnesses = IfOk-from_err _ _ refused;
@@ -24,15 +24,16 @@ returns-in_err-unwitnessed_drafts-in_default c =
       all = IfOk-from_err _ _ refused;
     }
 
-pub returns-in_ok-unwitnessed_drafts-in_default : goal.returns-in_ok-unwitnessed_drafts-in_default
-returns-in_ok-unwitnessed_drafts-in_default c =
+pub returns-in_ok-unwitnessed_drafts-in-None : goal.returns-in_ok-unwitnessed_drafts-in-None
+returns-in_ok-unwitnessed_drafts-in-None c =
     let b = c.args.bank.now in
     let d = c.unwitnessed_drafts.new.bank in
     let g = c.unwitnessed_drafts.ensures.grows in
-    let o = c.in_ok-unwitnessed_drafts-in_default.field-0 in
+    let o = c.in_ok-unwitnessed_drafts-in-None.field-0 in
+    let none = c.in-None.ensures in
     record {
-      drafted = c.in_ok-unwitnessed_drafts-in_default.ensures.drafted (rows_of d.terms c.args.witnesses.now);
-      witnesses = no_witness_by d c.args.lits.now c.args.by.now c.args.witnesses.now o c.in_default.not-AllNeg;
+      drafted = c.in_ok-unwitnessed_drafts-in-None.ensures.drafted (rows_of d.terms c.args.witnesses.now);
+      witnesses = no_witness_by d c.args.lits.now c.args.by.now c.args.witnesses.now o none;
       err = tt;
       widens = grown_wide b d g;
       right = c.unwitnessed_drafts.ensures.right;

@@ -5,7 +5,7 @@ use Rattle.tableau_rules.specs.Internal.Drafted.{alternatives_at}
 use Rattle.tableau_rules.specs.Internal.Used.{DraftedBy, WitnessesWhere}
 use Rattle.tableau_rules.proofs.WideLaws.{widens_on, wide_atoms, right_by}
 use Rattle.tableau_rules.proofs.UseLaws.{witnesses_on}
-use Rattle.tableau_rules.proofs.MadeLaws.{instance_on, instance_wider}
+use Rattle.tableau_rules.proofs.MadeLaws.{parts_wider, instance_on, instance_wider}
 use Rattle.tableau_rules.proofs.maker.make.Goals as goal
 
 pub returns-in_err-declare-clause-right : goal.returns-in_err-declare-clause-right
@@ -32,13 +32,14 @@ returns-in_ok-instance_of-in-Some-clause-instance c =
     let rows = rows_of b.terms c.drafts_of.new.witnesses in
     let ds = c.in-Some.drafts in
     let drafted = subst (DraftedBy b c.args.lits.now rows c.args.by.now) c.in-Some.is c.in_ok-drafts.ensures.drafted in
+    let parts = parts_wider c.args.bank.now b c.args.lits.now c.args.by.now (widens_on c.args.bank.now c.declare.new.bank b c.declare.ensures.declares.widens c.drafts_of.ensures.widens) c.requires.parts in
     subst (IsInstanceBy b c.instance_of.new.lits rows c.args.by.now) (sym c.in_ok-instance_of-in-Some.ensures.alternatives)
-    (instance_on b c.args.lits.now c.instance_of.new.lits c.args.by.now c.instance_of.ensures.begins c.requires.first c.requires.second rows (alternatives_at b ds) drafted.1)
+    (instance_on c.args.by.now rows (alternatives_at b ds) b c.args.lits.now c.instance_of.new.lits c.instance_of.ensures.begins c.requires.principals parts drafted.1)
 
 pub returns-in_ok-instance_of-in-Some-clause-witnesses : goal.returns-in_ok-instance_of-in-Some-clause-witnesses
 returns-in_ok-instance_of-in-Some-clause-witnesses c =
     let b = c.drafts_of.new.bank in
-    witnesses_on b c.args.lits.now c.instance_of.new.lits c.args.by.now c.args.witnesses.now c.drafts_of.new.witnesses c.instance_of.ensures.begins c.requires.first
+    witnesses_on b c.args.lits.now c.instance_of.new.lits c.args.by.now c.args.witnesses.now c.drafts_of.new.witnesses c.instance_of.ensures.begins c.requires.principals
     (subst (WitnessesWhere b c.args.lits.now c.args.by.now c.args.witnesses.now c.drafts_of.new.witnesses) c.in-Some.is c.in_ok-drafts.ensures.witnesses)
 
 pub returns-in-None-clause-not_this_rule : goal.returns-in-None-clause-not_this_rule
@@ -48,7 +49,7 @@ returns-in-None-clause-not_this_rule c =
     let none = subst (DraftedBy b c.args.lits.now rows c.args.by.now) c.in-None.is c.in_ok-drafts.ensures.drafted in
     λ _ others as' h.
     none others as'
-    (instance_wider c.args.bank.now b c.args.lits.now c.args.by.now (widens_on c.args.bank.now c.declare.new.bank b c.declare.ensures.declares.widens c.drafts_of.ensures.widens) c.requires.atoms c.requires.first c.requires.second c.requires.term others as' h)
+    (instance_wider c.args.by.now others as' c.args.bank.now b c.args.lits.now (widens_on c.args.bank.now c.declare.new.bank b c.declare.ensures.declares.widens c.drafts_of.ensures.widens) c.requires.atoms c.requires.principals c.requires.parts h)
 
 pub returns-in-None-clause-atoms : goal.returns-in-None-clause-atoms
 returns-in-None-clause-atoms c = wide_atoms c.args.bank.now c.drafts_of.new.bank (widens_on c.args.bank.now c.declare.new.bank c.drafts_of.new.bank c.declare.ensures.declares.widens c.drafts_of.ensures.widens) c.args.lits.now c.requires.atoms

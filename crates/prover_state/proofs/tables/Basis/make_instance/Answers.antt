@@ -11,7 +11,7 @@ returns-in-Ok-clause-grows c =
     let old = c.args.self.now in
     let new : Basis = record { bank = c.make-made.new.bank; normal = c.make-made.new.normal; lits = c.make-made.new.lits; witnesses = c.make-made.new.witnesses } in
     let by = c.args.by.now in
-    let same = no-witness new.bank new.lits by.kind by.first old.witnesses new.witnesses c.requires.kind c.in-Ok.ensures.witnesses in
+    let same = no-witness new.bank new.lits by old.witnesses new.witnesses c.requires.unwitnessed c.in-Ok.ensures.witnesses in
     record {
       bank = widened-grows old new c.requires.good c.make-made.ensures.widens same c.in-Ok.ensures.types;
       lits = c.make-made.ensures.begins;

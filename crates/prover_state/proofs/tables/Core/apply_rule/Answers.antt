@@ -2,7 +2,7 @@ use Rattle.std.proofs.Common.{◌≡◌, List, map, sym, ap, subst, ◌∙◌}
 use Rattle.tableau_calculus.specs.Literals.{Literal}
 use Rattle.sat_base.specs.declared.literal.SatLit.{SatLit}
 use Rattle.literal_map.specs.Atoms.{bank_literal}
-use Rattle.tableau_rules.specs.Uses.{principals_of}
+use Rattle.tableau_calculus.specs.RuleUses.{principals_of}
 use Rattle.search_spec.specs.Each.{Each}
 use Rattle.search_spec.specs.Instances.{with_instance}
 use Rattle.search_spec.specs.State.{State}
@@ -11,7 +11,7 @@ use Rattle.prover_state.specs.Internal.Standing.{the_state}
 use Rattle.prover_state.specs.Internal.Steps.{IsMadeInstance, StepsGrow}
 use Rattle.prover_state.specs.declared.tables.Basis.{Basis}
 use Rattle.prover_state.specs.declared.tables.Tables.{Tables}
-use Rattle.prover_state.proofs.RuleLaws.{principal-numbers, principals_same, same-alternatives, more-numbers}
+use Rattle.prover_state.proofs.RuleLaws.{principals_same, same-alternatives, more-numbers}
 use Rattle.prover_state.proofs.StateStays.{state-stays, right-stays}
 use Rattle.prover_state.proofs.StepLaws.{is-made, steps-weaker}
 use Rattle.prover_state.proofs.tables.Core.apply_rule.Goals as goal
@@ -27,7 +27,7 @@ add_instance-requires-clause-principals g c =
     let new = c.make_instance.new.self in
     let grows = c.in_ok-instance.ensures.grows in
     subst (Each (IsNumberIn new.lits)) (sym c.in_ok-instance.ensures.principals)
-    (more-numbers old new grows (principals_of c.args.by) (principal-numbers old new grows c.requires.right.basis c.args.by c.requires.first c.requires.second c.requires.term))
+    (more-numbers old new grows (principals_of c.args.by) c.requires.principals)
 
 pub returns-clause-state : goal.returns-clause-state
 returns-clause-state g c = λ alternatives h.
@@ -41,9 +41,9 @@ returns-clause-state g c = λ alternatives h.
     let made = map (map d) c.in_ok-instance.instance.alternatives in
     c.in_ok-add_instance.ensures.state
     ∙ ap (λ (ps : List SatLit). with_instance mode (map d ps) made (the_state t self.plan)) c.in_ok-instance.ensures.principals
-    ∙ ap (λ (ps : List Literal). with_instance mode ps made (the_state t self.plan)) (principals_same old new grows c.requires.right.basis c.args.by c.requires.first c.requires.second c.requires.term)
+    ∙ ap (λ (ps : List Literal). with_instance mode ps made (the_state t self.plan)) (principals_same old new grows c.requires.right.basis c.args.by c.requires.principals c.requires.parts)
     ∙ ap (λ (as' : List (List Literal)). with_instance mode (map (bank_literal old.bank.terms old.lits) (principals_of c.args.by)) as' (the_state t self.plan))
-    (same-alternatives old new grows c.requires.right.basis c.args.by c.requires.first c.requires.second c.requires.term alternatives made h c.in_ok-instance.ensures.instance)
+    (same-alternatives old new grows c.requires.right.basis c.args.by c.requires.principals c.requires.parts alternatives made h c.in_ok-instance.ensures.instance)
     ∙ ap (λ (s : State). with_instance mode (map (bank_literal old.bank.terms old.lits) (principals_of c.args.by)) alternatives s) (state-stays self.tables self.plan new grows c.requires.right)
 
 pub returns-clause-steps : goal.returns-clause-steps
@@ -53,7 +53,7 @@ returns-clause-steps g c =
     let new = c.make_instance.new.self in
     let i = c.in_ok-instance.instance in
     let made : IsMadeInstance new i =
-    is-made old new c.in_ok-instance.ensures.grows c.args.by i c.in_ok-instance.ensures.by c.in_ok-instance.ensures.principals c.requires.first c.requires.second c.requires.term c.requires.small c.requires.uncut
+    is-made old new c.in_ok-instance.ensures.grows c.args.by i c.in_ok-instance.ensures.by c.in_ok-instance.ensures.principals c.requires.principals c.requires.parts c.requires.small c.requires.uncut
     c.in_ok-instance.ensures.numbers
     c.in_ok-instance.ensures.instance in
     subst (λ (g : Basis). StepsGrow (IsMadeInstance g) self.tables.steps c.add_instance.new.self.tables.steps) (sym (ap (λ (t : Tables). t.basis) c.in_ok-add_instance.ensures.tables))

@@ -1,4 +1,3 @@
-use Rattle.std.proofs.Common.{ap}
 use Rattle.tableau_calculus.proofs.ShareLaws.{shared-last}
 use Rattle.tableau_calculus.proofs.lit.Lits.share.Goals as goal
 

@@ -1,4 +1,4 @@
-use Rattle.std.proofs.Common.{◌≡◌, ◌++◌, ◌∷◌, [], List, Option, length, refl, ap, ap₂, ◌∙◌, ◌-◌, arith, length-append, Result, Ok, Err}
+use Rattle.std.proofs.Common.{◌≡◌, ◌++◌, ◌∷◌, [], List, length, refl, ap, ap₂, ◌∙◌, ◌-◌, arith, length-append, Result, Ok, Err}
 use Rattle.std.specs.Result.{OnErr}
 use Rattle.sat_base.specs.declared.literal.SatLit.{SatLit}
 use Rattle.literal_map.specs.declared.instance.Instance.{Instance}
@@ -35,21 +35,16 @@ returns-in_err-push-clause-err c =
     on_err c.from_residual-in_err-push.result (unlisted c.args.self.now c.self.inside.lists c.append_lists.new.lists c.self.inside.instances.items c.push.new.self.items c.self.view_is c.self.invariant
     c.in_err-push.ensures.items more.0 more.1)
 
--- the same rule's use
-same_use : (instance : Instance) (first second : Option SatLit) → first ≡ instance.by.first → second ≡ instance.by.second
-    → record { by = record { kind = instance.by.kind; first = first; second = second; term = instance.by.term }; principals = instance.principals; alternatives = instance.alternatives } ≡ instance
-same_use instance first second is_first is_second =
-    ap₂ (λ (a b : Option SatLit). let i : Instance = record { by = record { kind = instance.by.kind; first = a; second = b; term = instance.by.term }; principals = instance.principals; alternatives = instance.alternatives } in i) is_first is_second
-
 pub returns-clause-ok : goal.returns-clause-ok
 returns-clause-ok c =
     let lists = c.self.inside.lists in
     let instances = c.self.inside.instances.items in
     let instance = c.args.instance.now in
     let own : List (List SatLit) = instance.principals ∷ instance.alternatives in
-    let packed : PackedInstance = record { kind = instance.by.kind; first = c.in_ok-first.first; second = c.in_ok-second.second; term = instance.by.term; start = c.in_ok-start.start; len = c.in_ok-len.field-0 - c.in_ok-start.start } in
+    let packed : PackedInstance = record { by = c.in_ok-by.by; start = c.in_ok-start.start; len = c.in_ok-len.field-0 - c.in_ok-start.start } in
     let start : packed.start ≡ length lists = omega (arith, c.len.ensures, c.in_ok-start.ensures) in
     let len : packed.len ≡ length own = omega (arith, c.len.ensures, c.in_ok-start.ensures, c.len-2.ensures, c.in_ok-len.ensures, ap (λ (l : List (List SatLit)). length l) c.in_ok-append_lists.ensures.ok, length-append lists own) in
     ap₂ all_unpacked c.in_ok-append_lists.ensures.ok c.in_ok-push.ensures.items
     ∙ all_unpacked-push lists own instances packed c.self.invariant start len
-    ∙ ap₂ (λ (t : List Instance) (i : Instance). t ++ i ∷ []) c.self.view_is (same_use instance packed.first packed.second c.in_ok-first.ensures c.in_ok-second.ensures)
+    ∙ ap₂ (λ (t : List Instance) (i : Instance). t ++ i ∷ []) c.self.view_is
+    (ap (λ by. let i : Instance = record { by = by; principals = instance.principals; alternatives = instance.alternatives } in i) c.in_ok-by.ensures)

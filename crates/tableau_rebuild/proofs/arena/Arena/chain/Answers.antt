@@ -16,8 +16,13 @@ premise-requires-clause-there c =
     let facts = first_facts t log c.requires.right c.args.n c.chain-chain.result.now c.chain-chain.ensures in
     subst (λ n. IsThere (length (the_clauses t)) n c.chain-chain.result.now.first) (sym c.requires.next) facts.there
 
-pub clause_of-requires : goal.clause_of-requires
-clause_of-requires c =
+pub copied-requires : goal.copied-requires
+copied-requires c =
+    let facts = first_facts c.args.steps.now c.args.log.now c.requires.right c.args.n c.chain-chain.result.now c.chain-chain.ensures in
+    (c.args.n, facts.there)
+
+pub literals_of-requires-clause-there : goal.literals_of-requires-clause-there
+literals_of-requires-clause-there c =
     let t = c.args.steps.now in
     let log = c.args.log.now in
     let facts = first_facts t log c.requires.right c.args.n c.chain-chain.result.now c.chain-chain.ensures in
@@ -29,7 +34,7 @@ loop-k-init c =
     let t = c.args.steps.now in
     let log = c.args.log.now in
     let chain = c.chain-chain.result.now in
-    let first = c.clause_of.result.now in
+    let first = c.literals_of.result.now in
     record {
       drawn = c.in_ok-standing.ensures.drawn;
       before = c.in_ok-standing.ensures.before c.args.n 0 c.requires.before;
@@ -37,7 +42,7 @@ loop-k-init c =
       clauses = c.in_ok-standing.ensures.clauses;
       results = c.in_ok-standing.ensures.results;
       chained =
-          chained_first t log c.requires.right c.premise.new.self.drafts.items c.args.n chain first c.start.new.self c.in_ok-standing.standing c.chain-chain.ensures c.clause_of.ensures (c.in_ok-start.ensures.ok ∙ ap each_once c.as_slice.ensures) (c.in_ok-standing.ensures.stands first c.clause_of.ensures);
+          chained_first t log c.requires.right c.premise.new.self.drafts.items c.args.n chain first c.start.new.self c.in_ok-standing.standing c.chain-chain.ensures c.literals_of.ensures c.in_ok-start.ensures.ok (c.in_ok-standing.ensures.stands first c.literals_of.ensures);
     }
 
 pub step-requires-clause-drawn : goal.step-requires-clause-drawn

@@ -14,8 +14,15 @@ premise-requires-clause-there c =
     let facts = step_facts t log c.args.self.now.drafts.items c.args.at.result c.args.at.step c.args.resolver.now c.args.standing c.args.step c.requires.chained c.requires.has in
     subst (λ n. IsThere (length (the_clauses t)) n c.args.step.premise) (sym c.requires.next) facts.there
 
-pub clause_of-requires : goal.clause_of-requires
-clause_of-requires c =
+pub copied-requires : goal.copied-requires
+copied-requires c =
+    let t = c.args.steps.now in
+    let log = c.args.log.now in
+    let facts = step_facts t log c.args.self.now.drafts.items c.args.at.result c.args.at.step c.args.resolver.now c.args.standing c.args.step c.requires.chained c.requires.has in
+    (c.args.at.result, facts.there)
+
+pub literals_of-literals-requires-clause-there : goal.literals_of-literals-requires-clause-there
+literals_of-literals-requires-clause-there c =
     let t = c.args.steps.now in
     let log = c.args.log.now in
     let facts = step_facts t log c.args.self.now.drafts.items c.args.at.result c.args.at.step c.args.resolver.now c.args.standing c.args.step c.requires.chained c.requires.has in
@@ -27,8 +34,7 @@ resolve-requires-clause-once c = no_repeats c.args.steps.now c.args.log.now c.ar
 
 pub resolve-requires-clause-resolves : goal.resolve-requires-clause-resolves
 resolve-requires-clause-resolves c =
-    subst (λ x. IsSome (resolved c.args.step.var c.args.resolver.now x)) (sym c.as_slice-literals.ensures)
-    (resolves c.args.steps.now c.args.log.now c.args.self.now.drafts.items c.args.at.result c.args.at.step c.args.resolver.now c.clause_of.result.now c.args.standing c.args.step c.requires.chained c.requires.has c.clause_of.ensures)
+    resolves c.args.steps.now c.args.log.now c.args.self.now.drafts.items c.args.at.result c.args.at.step c.args.resolver.now c.literals_of-literals.result.now c.args.standing c.args.step c.requires.chained c.requires.has c.literals_of-literals.ensures
 
 pub join-requires-clause-before : goal.join-requires-clause-before
 join-requires-clause-before c = c.in_ok-other.ensures.before c.args.at.result c.args.at.step c.requires.before
@@ -36,22 +42,22 @@ join-requires-clause-before c = c.in_ok-other.ensures.before c.args.at.result c.
 pub join-requires-else-is_first-clause-before : goal.join-requires-else-is_first-clause-before
 join-requires-else-is_first-clause-before c = c.in_ok-other.ensures.before c.args.at.result c.args.at.step c.requires.before
 
-pub returns-in_ok-join-clause-chained : goal.returns-in_ok-join-clause-chained
-returns-in_ok-join-clause-chained c =
+pub returns-then-is_first-clause-chained : goal.returns-then-is_first-clause-chained
+returns-then-is_first-clause-chained c =
     let old = c.args.resolver.now in
     let v = c.args.step.var in
-    let premise = c.clause_of.result.now in
+    let premise = c.literals_of-literals.result.now in
     chained_more c.args.steps.now c.args.log.now c.args.self.now.drafts.items c.premise.new.self.drafts.items c.join.new.self.drafts.items c.args.at.result c.args.at.step old premise c.resolve.new.self c.args.standing c.in_ok-other.other c.in_ok-join.field-0 c.args.step c.requires.chained c.requires.has
-    c.in_ok-other.ensures.extends c.clause_of.ensures (c.in_ok-other.ensures.stands premise c.clause_of.ensures) (ap (resolved v old) (sym c.as_slice-literals.ensures) ∙ c.in_ok-resolve.ensures.ok) true
-    (c.if-is_first.ensures ∙ ap (λ x. holds old (positive v) && holds x c.negated.result) c.as_slice-literals.ensures ∙ ap (λ l. holds old (positive v) && holds premise l) c.negated.ensures)
+    c.in_ok-other.ensures.extends c.literals_of-literals.ensures (c.in_ok-other.ensures.stands premise c.literals_of-literals.ensures) c.in_ok-resolve.ensures.ok true
+    (c.if-is_first.ensures ∙ ap (λ l. holds old (positive v) && holds premise l) c.negated.ensures)
     c.in_ok-join.ensures.joined
 
-pub returns-in_ok-join-2-clause-chained : goal.returns-in_ok-join-2-clause-chained
-returns-in_ok-join-2-clause-chained c =
+pub returns-clause-chained : goal.returns-clause-chained
+returns-clause-chained c =
     let old = c.args.resolver.now in
     let v = c.args.step.var in
-    let premise = c.clause_of.result.now in
+    let premise = c.literals_of-literals.result.now in
     chained_more c.args.steps.now c.args.log.now c.args.self.now.drafts.items c.premise.new.self.drafts.items c.join-else-is_first.new.self.drafts.items c.args.at.result c.args.at.step old premise c.resolve.new.self c.args.standing c.in_ok-other.other c.in_ok-join-2.field-0 c.args.step c.requires.chained c.requires.has
-    c.in_ok-other.ensures.extends c.clause_of.ensures (c.in_ok-other.ensures.stands premise c.clause_of.ensures) (ap (resolved v old) (sym c.as_slice-literals.ensures) ∙ c.in_ok-resolve.ensures.ok) false
-    (c.if-is_first.ensures ∙ ap (λ x. holds old (positive v) && holds x c.negated.result) c.as_slice-literals.ensures ∙ ap (λ l. holds old (positive v) && holds premise l) c.negated.ensures)
+    c.in_ok-other.ensures.extends c.literals_of-literals.ensures (c.in_ok-other.ensures.stands premise c.literals_of-literals.ensures) c.in_ok-resolve.ensures.ok false
+    (c.if-is_first.ensures ∙ ap (λ l. holds old (positive v) && holds premise l) c.negated.ensures)
     c.in_ok-join-2.ensures.joined

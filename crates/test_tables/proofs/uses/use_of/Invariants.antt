@@ -1,5 +1,0 @@
-use Rattle.test_tables.specs.Sound.{AreSoundTables}
-use Rattle.test_tables.proofs.uses.use_of.Given as goal
-
-abbrev pub invariant-loop-word : goal.invariant-loop-word
-invariant-loop-word l = AreSoundTables l.tables
