@@ -1,28 +1,33 @@
 //! Lists without repeats.
-ghost use Rattle.std.specs.Prelude.{◌≡◌, ◌++◌, [], ◌∷◌, not, nat_eq, if◌then◌else◌, IfOk, OnOk, OnErr};
+ghost use Rattle.std.specs.Prelude.{◌≡◌, ◌<◌, ◌++◌, [], ◌∷◌, not, false, ℕ, nat_eq, if◌then◌else◌, length, slice_index_or, IfOk, OnOk, OnErr};
 ghost use Rattle.std.specs.List.{list_any};
 ghost use Rattle.tableau_calculus.specs.Kinds.{has, added};
 ghost use Rattle.search_spec.specs.Numbered.{numbers};
 
 use indexmap::IndexSet;
 use sat_base::SatLit;
+use sat_propagate::Packed;
 use std::alloc::{AllocError, Global};
 use std::marker::Model;
 use term_bank::Id;
 
-/// Literals, each there once, in the order in which they came.
+/// Literals, each there once, in the order in which they came. By a literal's number it is marked whether it is there.
 #[derive(Drop)]
 pub struct LitSet {
-    literals: IndexSet<SatLit>,
+    literals: Vec<Packed>,
+    marks: Vec<bool>,
 }
 
 impl Model for LitSet {
     ghost use Rattle.std.specs.Prelude.{List};
     ghost use Rattle.sat_base.specs.declared.literal.SatLit.{SatLit};
+    ghost use Rattle.prover_state.specs.Internal.Marks.{AreMarks};
 
     ghost Value = { List SatLit };
 
-    ghost view = { λ set. set.literals.keys };
+    ghost view = { λ set. set.literals.items };
+
+    ghost invariant = { λ set. AreMarks set.literals.items set.marks.items };
 }
 
 impl LitSet {
@@ -30,7 +35,8 @@ impl LitSet {
         ensures { result ≡ [] }
     {
         LitSet {
-            literals: IndexSet::new(alloc),
+            literals: Vec::new(alloc),
+            marks: Vec::new(alloc),
         }
     }
 
@@ -40,8 +46,27 @@ impl LitSet {
         ensures list { OnOk result (self.new ≡ added numbers self.old (lit ∷ [])) }
         ensures err { OnErr result (self.new ≡ self.old) }
     {
-        Ok(self.literals.insert(lit)?)
+        let literal = Packed::of(lit)?;
+        let number = literal.number();
+        reach(&mut self.marks, number)?;
+        if self.marks[number] {
+            return Ok(false);
+        }
+        self.literals.push(literal)?;
+        self.marks[number] = true;
+        Ok(true)
     }
+}
+
+/// Makes marks up to a number, of which nothing is marked.
+fn reach(marks: &mut Vec<bool>, number: usize) -> Result<(), AllocError>
+    ensures reached { OnOk result (number < length marks.new.items) }
+    ensures same { (n : ℕ) → slice_index_or marks.new.items n false ≡ slice_index_or marks.old.items n false }
+{
+    while marks.len() <= number {
+        marks.push(false)?;
+    }
+    Ok(())
 }
 
 /// Terms by number, each there once, in the order in which they came.

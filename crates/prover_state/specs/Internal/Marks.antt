@@ -1,0 +1,10 @@
+-- Marks by the numbers of literals.
+use Rattle.std.specs.Prelude.{◌≡◌, Bool, false, List, slice_index_or}
+use Rattle.sat_base.specs.declared.literal.SatLit.{SatLit}
+use Rattle.sat_laws.specs.Internal.Packing.{packed}
+use Rattle.tableau_calculus.specs.Kinds.{has}
+use Rattle.search_spec.specs.Numbered.{numbers}
+
+-- each literal is marked by its number where it is one of the list
+abbrev pub AreMarks : List SatLit → List Bool → Type 0
+AreMarks literals marks = (l : SatLit) → has numbers literals l ≡ slice_index_or marks (packed l) false
