@@ -4,7 +4,6 @@ ghost use Rattle.std.specs.List.{list_any};
 ghost use Rattle.tableau_calculus.specs.Kinds.{has, added};
 ghost use Rattle.search_spec.specs.Numbered.{numbers};
 
-use indexmap::IndexSet;
 use sat_base::SatLit;
 use sat_propagate::Packed;
 use std::alloc::{AllocError, Global};
@@ -58,6 +57,60 @@ impl LitSet {
     }
 }
 
+/// Terms by number, each there once, in the order in which they came. By its number it is marked whether a term is there.
+#[derive(Drop)]
+pub struct IdSet {
+    ids: Vec<Id>,
+    marks: Vec<bool>,
+}
+
+impl Model for IdSet {
+    ghost use Rattle.std.specs.Prelude.{List, ℕ};
+    ghost use Rattle.prover_state.specs.Internal.Marks.{AreNumberMarks};
+
+    ghost Value = { List ℕ };
+
+    ghost view = { λ set. set.ids.items };
+
+    ghost invariant = { λ set. AreNumberMarks set.ids.items set.marks.items };
+}
+
+impl IdSet {
+    pub fn new(alloc: Global) -> IdSet
+        ensures { result ≡ [] }
+    {
+        IdSet {
+            ids: Vec::new(alloc),
+            marks: Vec::new(alloc),
+        }
+    }
+
+    pub fn contains(&self, id: Id) -> bool
+        ensures { result ≡ list_any (nat_eq id) self.now }
+    {
+        match self.marks.get(id as usize) {
+            Some(is_there) => *is_there,
+            None => false,
+        }
+    }
+
+    /// Adds a term, and tells whether it is new.
+    pub fn insert(&mut self, id: Id) -> Result<bool, AllocError>
+        ensures new { IfOk result (λ is_new. is_new ≡ not (list_any (nat_eq id) self.old)) }
+        ensures list { OnOk result (self.new ≡ (if list_any (nat_eq id) self.old then self.old else self.old ++ id ∷ [])) }
+        ensures err { OnErr result (self.new ≡ self.old) }
+    {
+        let number = id as usize;
+        reach(&mut self.marks, number)?;
+        if self.marks[number] {
+            return Ok(false);
+        }
+        self.ids.push(id)?;
+        self.marks[number] = true;
+        Ok(true)
+    }
+}
+
 /// Makes marks up to a number, of which nothing is marked.
 fn reach(marks: &mut Vec<bool>, number: usize) -> Result<(), AllocError>
     ensures reached { OnOk result (number < length marks.new.items) }
@@ -67,43 +120,4 @@ fn reach(marks: &mut Vec<bool>, number: usize) -> Result<(), AllocError>
         marks.push(false)?;
     }
     Ok(())
-}
-
-/// Terms by number, each there once, in the order in which they came.
-#[derive(Drop)]
-pub struct IdSet {
-    ids: IndexSet<Id>,
-}
-
-impl Model for IdSet {
-    ghost use Rattle.std.specs.Prelude.{List, ℕ};
-
-    ghost Value = { List ℕ };
-
-    ghost view = { λ set. set.ids.keys };
-}
-
-impl IdSet {
-    pub fn new(alloc: Global) -> IdSet
-        ensures { result ≡ [] }
-    {
-        IdSet {
-            ids: IndexSet::new(alloc),
-        }
-    }
-
-    pub fn contains(&self, id: Id) -> bool
-        ensures { result ≡ list_any (nat_eq id) self.now }
-    {
-        self.ids.contains(&id)
-    }
-
-    /// Adds a term, and tells whether it is new.
-    pub fn insert(&mut self, id: Id) -> Result<bool, AllocError>
-        ensures new { IfOk result (λ is_new. is_new ≡ not (list_any (nat_eq id) self.old)) }
-        ensures list { OnOk result (self.new ≡ (if list_any (nat_eq id) self.old then self.old else self.old ++ id ∷ [])) }
-        ensures err { OnErr result (self.new ≡ self.old) }
-    {
-        Ok(self.ids.insert(id)?)
-    }
 }
