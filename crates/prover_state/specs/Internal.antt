@@ -18,3 +18,4 @@ pub mod Steps
 pub mod Shapes
 pub mod Pending
 pub mod Pieces
+pub mod Advancing
