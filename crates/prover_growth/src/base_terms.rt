@@ -11,7 +11,8 @@ ghost use Rattle.search_spec.specs.Terms.{first_terms, with_terms};
 ghost use Rattle.prover_state.specs.Lasting.{declarations_of, lasting};
 ghost use Rattle.prover_state.specs.Internal.Growing.{BasisGrows};
 ghost use Rattle.prover_state.specs.Internal.Names.{IsPlace};
-ghost use Rattle.prover_state.specs.Internal.Standing.{setting_by, the_state, IsBasis, IsRightState};
+ghost use Rattle.prover_state.specs.Internal.Standing.{IsBasis, IsRightState};
+ghost use Rattle.prover_state.specs.Internal.Advancing.{state_in, setting_in, StaysRight};
 
 use command_queue::Weigher;
 use prover_state::{Basis, Core, Waiting};
@@ -122,10 +123,10 @@ fn first_terms_of(alloc: Global, basis: &mut Basis, n: u32) -> Result<Ids, Alloc
 fn add_terms<W: Weigher<Waiting>>(core: &mut Core<W>, ty: &Ty, ids: &Ids) -> Result<(), AllocError>
     requires right { IsRightState core.old.tables core.old.plan }
     requires places { Each (IsPlace core.old.tables.basis.bank.terms) ids.now }
-    ensures state { OnOk result (the_state core.new.tables core.new.plan ≡ with_terms core.old.plan.rule.mode (the_type ty.now) (map (term_at core.old.tables.basis.bank.terms) ids.now) (the_state core.old.tables core.old.plan)) }
-    ensures right { OnOk result (IsRightState core.new.tables core.new.plan) }
+    ensures state { OnOk result (state_in core.new
+        ≡ with_terms core.old.plan.rule.mode (the_type ty.now) (map (term_at core.old.tables.basis.bank.terms) ids.now) (state_in core.old)) }
+    ensures stays { OnOk result (StaysRight core.old core.new) }
     ensures tables { OnOk result (core.new.tables ≡ record core.old.tables { terms = core.new.tables.terms }) }
-    ensures rule { OnOk result (core.new.plan.rule ≡ core.old.plan.rule) }
     ensures lasts { lasting core.new.tables ≡ lasting core.old.tables }
 {
     for i in 0..ids.len() {
@@ -138,11 +139,10 @@ fn add_terms<W: Weigher<Waiting>>(core: &mut Core<W>, ty: &Ty, ids: &Ids) -> Res
 pub(crate) fn begin_base<W: Weigher<Waiting>>(core: &mut Core<W>, n: u32) -> Result<(), AllocError>
     requires right { IsRightState core.old.tables core.old.plan }
     requires declared { is_declared (length core.old.tables.basis.bank.bases) (base n) ≡ true }
-    ensures state { OnOk result (the_state core.new.tables core.new.plan ≡ with_beginning (setting_by core.old.tables core.old.plan) (base n) (the_state core.old.tables core.old.plan)) }
-    ensures right { OnOk result (IsRightState core.new.tables core.new.plan) }
+    ensures state { OnOk result (state_in core.new ≡ with_beginning (setting_in core.old) (base n) (state_in core.old)) }
+    ensures stays { OnOk result (StaysRight core.old core.new) }
     ensures basis { OnOk result (BasisGrows core.old.tables.basis core.new.tables.basis) }
     ensures tables { OnOk result (core.new.tables ≡ record core.old.tables { basis = core.new.tables.basis; terms = core.new.tables.terms }) }
-    ensures rule { OnOk result (core.new.plan.rule ≡ core.old.plan.rule) }
     ensures lasts { lasting core.new.tables ≡ lasting core.old.tables }
 {
     let ty = Ty::Base(n);

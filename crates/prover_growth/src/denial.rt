@@ -2,7 +2,6 @@
 ghost use Rattle.std.specs.Prelude.{◌≡◌, ◌<◌, ◌-◌, ◌^◌, nat_lt, [], ◌∷◌, length, map, if◌then◌else◌, IfOk, OnOk};
 ghost use Rattle.stt_core.specs.SimpleType.{SimpleType, base, target};
 ghost use Rattle.stt_core.specs.Lambda.{Lambda};
-ghost use Rattle.literal_map.specs.Atoms.{bank_literal};
 ghost use Rattle.instantiate.specs.Listing.{with_listed};
 ghost use Rattle.tableau_calculus.specs.Rules.{all_neg};
 ghost use Rattle.search_spec.specs.Witness.{witness_of};
@@ -10,8 +9,9 @@ ghost use Rattle.prover_growth.specs.Internal.Denials.{Denies, with_row};
 ghost use Rattle.prover_state.specs.Lasting.{declarations_of, lasting};
 ghost use Rattle.prover_state.specs.Internal.Growing.{BasisWidens};
 ghost use Rattle.prover_state.specs.Internal.Names.{IsNumberIn};
-ghost use Rattle.prover_state.specs.Internal.Standing.{rows_in, the_state, IsBasis, IsRightState};
+ghost use Rattle.prover_state.specs.Internal.Standing.{rows_in, IsBasis, IsRightState};
 ghost use Rattle.prover_state.specs.Internal.Steps.{IsMadeInstance};
+ghost use Rattle.prover_state.specs.Internal.Advancing.{the_literal, state_in, IsReadyCore};
 
 use command_queue::Weigher;
 use instantiate::{Enumerator, target_of};
@@ -45,7 +45,7 @@ fn make_denial(alloc: Global, basis: &mut Basis, lit: SatLit) -> Result<Instance
     requires denies { (a : SimpleType) × ((f : Lambda) × Denies basis.old lit a f) }
     ensures made { IfOk result (IsMadeInstance basis.new) }
     ensures principals { IfOk result (λ i. i.principals ≡ lit ∷ []) }
-    ensures alternatives { IfOk result (λ i. (a : SimpleType) (f : Lambda) → Denies basis.old lit a f → map (map (bank_literal basis.new.bank.terms basis.new.lits)) i.alternatives ≡ all_neg a f (witness_of (rows_in basis.old) (record { type = a; predicate = f }))) }
+    ensures alternatives { IfOk result (λ i. (a : SimpleType) (f : Lambda) → Denies basis.old lit a f → map (map (the_literal basis.new)) i.alternatives ≡ all_neg a f (witness_of (rows_in basis.old) (record { type = a; predicate = f }))) }
     ensures rows { OnOk result ((a : SimpleType) (f : Lambda) → Denies basis.old lit a f → rows_in basis.new ≡ with_row (rows_in basis.old) (record { type = a; predicate = f })) }
     ensures good { OnOk result (IsBasis basis.new) }
     ensures widens { OnOk result (BasisWidens basis.old basis.new) }
@@ -87,16 +87,16 @@ pub(crate) fn deny<W: Weigher<Waiting>>(
     output: u32,
     lit: SatLit,
 ) -> Result<Instance, AllocError>
-    requires right { IsRightState core.old.tables core.old.plan }
+    requires ready { IsReadyCore core.old }
     requires number { IsNumberIn core.old.tables.basis.lits lit }
-    requires few { length core.old.tables.basis.witnesses < 2 ^ 32 - 1 }
     requires denies { (a : SimpleType) × ((f : Lambda) × Denies core.old.tables.basis lit a f) }
     requires output { (a : SimpleType) (f : Lambda) → Denies core.old.tables.basis lit a f → output ≡ target a }
-    ensures state { OnOk result ((a : SimpleType) (f : Lambda) → Denies core.old.tables.basis lit a f → the_state core.new.tables core.new.plan ≡ record (the_state core.old.tables core.old.plan) { rows = with_row (rows_in core.old.tables.basis) (record { type = a; predicate = f }) }) }
+    ensures state { OnOk result ((a : SimpleType) (f : Lambda) → Denies core.old.tables.basis lit a f
+        → state_in core.new ≡ record (state_in core.old) { rows = with_row (rows_in core.old.tables.basis) (record { type = a; predicate = f }) }) }
     ensures right { OnOk result (IsRightState core.new.tables core.new.plan) }
     ensures made { IfOk result (IsMadeInstance core.new.tables.basis) }
     ensures principals { IfOk result (λ i. i.principals ≡ lit ∷ []) }
-    ensures alternatives { IfOk result (λ i. (a : SimpleType) (f : Lambda) → Denies core.old.tables.basis lit a f → map (map (bank_literal core.new.tables.basis.bank.terms core.new.tables.basis.lits)) i.alternatives ≡ all_neg a f (witness_of (rows_in core.old.tables.basis) (record { type = a; predicate = f }))) }
+    ensures alternatives { IfOk result (λ i. (a : SimpleType) (f : Lambda) → Denies core.old.tables.basis lit a f → map (map (the_literal core.new.tables.basis)) i.alternatives ≡ all_neg a f (witness_of (rows_in core.old.tables.basis) (record { type = a; predicate = f }))) }
     ensures rows { OnOk result ((a : SimpleType) (f : Lambda) → Denies core.old.tables.basis lit a f → rows_in core.new.tables.basis ≡ with_row (rows_in core.old.tables.basis) (record { type = a; predicate = f })) }
     ensures widens { OnOk result (BasisWidens core.old.tables.basis core.new.tables.basis) }
     ensures tables { OnOk result (core.new.tables ≡ record core.old.tables { basis = core.new.tables.basis; takers = core.new.tables.takers }) }

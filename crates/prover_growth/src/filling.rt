@@ -17,7 +17,8 @@ ghost use Rattle.prover_state.specs.Internal.Growing.{BasisGrows};
 ghost use Rattle.prover_state.specs.Internal.HeadNumbers.{head_numbered};
 ghost use Rattle.prover_state.specs.Internal.Heads.{the_hole_head};
 ghost use Rattle.prover_state.specs.Internal.Names.{sketch_at, IsNumberedCommand};
-ghost use Rattle.prover_state.specs.Internal.Standing.{naming_in, scope_by, setting_by, sketches_in, the_state, IsBasis, IsRightState};
+ghost use Rattle.prover_state.specs.Internal.Standing.{naming_in, scope_by, sketches_in, IsBasis, IsRightState};
+ghost use Rattle.prover_state.specs.Internal.Advancing.{state_in, setting_in, StaysRight};
 ghost use Rattle.prover_state.specs.declared.command.Command.TheVariants.{Grow};
 
 use crate::opening::open_stem;
@@ -71,11 +72,12 @@ fn fill_last<W: Weigher<Waiting>>(
     requires number { parent < length (sketches_in core.old.tables) }
     requires grows { GrowsSketch (scope_by core.old.tables.basis) (sketch_at (sketches_in core.old.tables) parent) (the_hole_head head) }
     requires last { first_hole [] (growth_by (scope_by core.old.tables.basis) (the_hole_head head) (sketch_at (sketches_in core.old.tables) parent)).partial ≡ None }
-    ensures state { OnOk result (let p = sketch_at (sketches_in core.old.tables) parent in the_state core.new.tables core.new.plan ≡ with_term core.old.plan.rule.mode p.type (term_of (growth_by (scope_by core.old.tables.basis) (the_hole_head head) p).partial) (the_state core.old.tables core.old.plan)) }
-    ensures right { OnOk result (IsRightState core.new.tables core.new.plan) }
+    ensures state { OnOk result (let p = sketch_at (sketches_in core.old.tables) parent in
+        state_in core.new
+        ≡ with_term core.old.plan.rule.mode p.type (term_of (growth_by (scope_by core.old.tables.basis) (the_hole_head head) p).partial) (state_in core.old)) }
+    ensures stays { OnOk result (StaysRight core.old core.new) }
     ensures basis { OnOk result (BasisGrows core.old.tables.basis core.new.tables.basis) }
     ensures tables { OnOk result (core.new.tables ≡ record core.old.tables { basis = core.new.tables.basis; terms = core.new.tables.terms }) }
-    ensures rule { OnOk result (core.new.plan.rule ≡ core.old.plan.rule) }
     ensures lasts { lasting core.new.tables ≡ lasting core.old.tables }
 {
     let ty = root_of(&core.tables, parent).try_clone(core.tables.alloc)?;
@@ -95,11 +97,11 @@ pub fn fill<W: Weigher<Waiting>>(
     requires numbers { IsNumberedCommand (naming_in core.old.tables) (Grow parent head) }
     requires typed { Each (IsTypedSketch (scope_by core.old.tables.basis)) (sketches_in core.old.tables) }
     requires fits { GrowsSketch (scope_by core.old.tables.basis) (sketch_at (sketches_in core.old.tables) parent) (head_numbered head) }
-    ensures state { OnOk result (the_state core.new.tables core.new.plan ≡ with_command (setting_by core.old.tables core.old.plan) (grow (sketch_at (sketches_in core.old.tables) parent) (head_numbered head)) (the_state core.old.tables core.old.plan)) }
-    ensures right { OnOk result (IsRightState core.new.tables core.new.plan) }
+    ensures state { OnOk result (state_in core.new
+        ≡ with_command (setting_in core.old) (grow (sketch_at (sketches_in core.old.tables) parent) (head_numbered head)) (state_in core.old)) }
+    ensures stays { OnOk result (StaysRight core.old core.new) }
     ensures basis { OnOk result (BasisGrows core.old.tables.basis core.new.tables.basis) }
     ensures tables { OnOk result (core.new.tables ≡ record core.old.tables { basis = core.new.tables.basis; terms = core.new.tables.terms; stems = core.new.tables.stems; open_holes = core.new.tables.open_holes; holes = core.new.tables.holes; roots = core.new.tables.roots }) }
-    ensures rule { OnOk result (core.new.plan.rule ≡ core.old.plan.rule) }
     ensures lasts { lasting core.new.tables ≡ lasting core.old.tables }
 {
     let filler = numbered_head(head);

@@ -9,7 +9,8 @@ ghost use Rattle.prover_state.specs.declared.command.Planned.{Planned};
 ghost use Rattle.prover_state.specs.declared.command.Delays.{Delays};
 ghost use Rattle.prover_state.specs.Internal.Fitting.{names_for};
 ghost use Rattle.prover_state.specs.Internal.Names.{sketch_at};
-ghost use Rattle.prover_state.specs.Internal.Standing.{scope_by, sketches_in, the_state, IsRightState};
+ghost use Rattle.prover_state.specs.Internal.Standing.{scope_by, sketches_in, IsRightState};
+ghost use Rattle.prover_state.specs.Internal.Advancing.{state_in, StaysRight};
 
 use command_queue::Weigher;
 use prover_state::{Command, Core, Over, Tables, Waiting, number_of};
@@ -84,10 +85,11 @@ pub(crate) fn push_heads<W: Weigher<Waiting>>(
 ) -> Result<(), AllocError>
     requires right { IsRightState core.old.tables core.old.plan }
     requires number { p < length (sketches_in core.old.tables) }
-    ensures state { OnOk result (let q = sketch_at (sketches_in core.old.tables) p in the_state core.new.tables core.new.plan ≡ with_commands core.old.plan.rule.mode (map (grow q) (heads_for (the_offers core.old.tables.offers) (scope_by core.old.tables.basis) (first_hole [] q.partial))) (the_state core.old.tables core.old.plan)) }
-    ensures right { OnOk result (IsRightState core.new.tables core.new.plan) }
+    ensures state { OnOk result (let q = sketch_at (sketches_in core.old.tables) p in
+        state_in core.new
+        ≡ with_commands core.old.plan.rule.mode (map (grow q) (heads_for (the_offers core.old.tables.offers) (scope_by core.old.tables.basis) (first_hole [] q.partial))) (state_in core.old)) }
+    ensures stays { OnOk result (StaysRight core.old core.new) }
     ensures tables { core.new.tables ≡ core.old.tables }
-    ensures rule { OnOk result (core.new.plan.rule ≡ core.old.plan.rule) }
 {
     let count = count_heads(&core.tables, p)?;
     if count == 0 {

@@ -7,13 +7,13 @@ ghost use Rattle.normal_forms.specs.Normal.{eta};
 ghost use Rattle.tableau_calculus.specs.Literals.{minus};
 ghost use Rattle.tableau_calculus.specs.Witnesses.{Row};
 ghost use Rattle.term_bank.specs.Content.{HasTerm};
-ghost use Rattle.literal_map.specs.Atoms.{bank_literal};
 ghost use Rattle.search_spec.specs.Offers.{early_terms, offered_witness, takes_witness};
 ghost use Rattle.search_spec.specs.Terms.{with_terms};
 ghost use Rattle.prover_state.specs.Lasting.{declarations_of, lasting};
 ghost use Rattle.prover_state.specs.Internal.Growing.{BasisGrows};
 ghost use Rattle.prover_state.specs.Internal.Names.{IsNumberIn};
-ghost use Rattle.prover_state.specs.Internal.Standing.{rows_in, the_state, IsBasis, IsRightState};
+ghost use Rattle.prover_state.specs.Internal.Standing.{rows_in, IsBasis, IsRightState};
+ghost use Rattle.prover_state.specs.Internal.Advancing.{the_literal, state_in, StaysRight};
 
 use crate::opening::is_prepared;
 use command_queue::Weigher;
@@ -51,11 +51,11 @@ fn witness_in(basis: &mut Basis, w: u32, ty: &Ty) -> Result<Id, AllocError>
 fn offer_witness<W: Weigher<Waiting>>(core: &mut Core<W>, ty: &Ty, w: u32) -> Result<(), AllocError>
     requires right { IsRightState core.old.tables core.old.plan }
     requires row { (r : Row) × ((slice_get (rows_in core.old.tables.basis) w ≡ Some r) × (r.type ≡ the_type ty.now)) }
-    ensures state { OnOk result (let a = the_type ty.now in the_state core.new.tables core.new.plan ≡ with_terms core.old.plan.rule.mode a (eta a (constant (witness w)) ∷ []) (the_state core.old.tables core.old.plan)) }
-    ensures right { OnOk result (IsRightState core.new.tables core.new.plan) }
+    ensures state { OnOk result (let a = the_type ty.now in
+        state_in core.new ≡ with_terms core.old.plan.rule.mode a (eta a (constant (witness w)) ∷ []) (state_in core.old)) }
+    ensures stays { OnOk result (StaysRight core.old core.new) }
     ensures basis { OnOk result (BasisGrows core.old.tables.basis core.new.tables.basis) }
     ensures tables { OnOk result (core.new.tables ≡ record core.old.tables { basis = core.new.tables.basis; terms = core.new.tables.terms }) }
-    ensures rule { OnOk result (core.new.plan.rule ≡ core.old.plan.rule) }
     ensures lasts { lasting core.new.tables ≡ lasting core.old.tables }
 {
     let id = witness_in(&mut core.tables.basis, w, ty)?;
@@ -68,11 +68,12 @@ fn offer_where<W: Weigher<Waiting>>(core: &mut Core<W>, ty: &Ty, w: u32) -> Resu
     requires right { IsRightState core.old.tables core.old.plan }
     requires number { w < length core.old.tables.basis.witnesses }
     ensures state { OnOk result ((r : Row) → slice_get (rows_in core.old.tables.basis) w ≡ Some r
-        → (let a = the_type ty.now in the_state core.new.tables core.new.plan ≡ with_terms core.old.plan.rule.mode a (if same_type a r.type then eta a (constant (witness w)) ∷ [] else []) (the_state core.old.tables core.old.plan))) }
-    ensures right { OnOk result (IsRightState core.new.tables core.new.plan) }
+        → (let a = the_type ty.now in
+        state_in core.new
+        ≡ with_terms core.old.plan.rule.mode a (if same_type a r.type then eta a (constant (witness w)) ∷ [] else []) (state_in core.old))) }
+    ensures stays { OnOk result (StaysRight core.old core.new) }
     ensures basis { OnOk result (BasisGrows core.old.tables.basis core.new.tables.basis) }
     ensures tables { OnOk result (core.new.tables ≡ record core.old.tables { basis = core.new.tables.basis; terms = core.new.tables.terms }) }
-    ensures rule { OnOk result (core.new.plan.rule ≡ core.old.plan.rule) }
     ensures lasts { lasting core.new.tables ≡ lasting core.old.tables }
 {
     if has_witness_type(&core.tables.basis, w, ty) {
@@ -88,11 +89,11 @@ pub(crate) fn offer_early<W: Weigher<Waiting>>(
     ty: &Ty,
 ) -> Result<(), AllocError>
     requires right { IsRightState core.old.tables core.old.plan }
-    ensures state { OnOk result (let s = the_state core.old.tables core.old.plan in let a = the_type ty.now in the_state core.new.tables core.new.plan ≡ with_terms core.old.plan.rule.mode a (early_terms core.old.plan.rule.mode a s) s) }
-    ensures right { OnOk result (IsRightState core.new.tables core.new.plan) }
+    ensures state { OnOk result (let s = state_in core.old in let a = the_type ty.now in
+        state_in core.new ≡ with_terms core.old.plan.rule.mode a (early_terms core.old.plan.rule.mode a s) s) }
+    ensures stays { OnOk result (StaysRight core.old core.new) }
     ensures basis { OnOk result (BasisGrows core.old.tables.basis core.new.tables.basis) }
     ensures tables { OnOk result (core.new.tables ≡ record core.old.tables { basis = core.new.tables.basis; terms = core.new.tables.terms }) }
-    ensures rule { OnOk result (core.new.plan.rule ≡ core.old.plan.rule) }
     ensures lasts { lasting core.new.tables ≡ lasting core.old.tables }
 {
     if core.plan.mode().terms == 0 {
@@ -107,7 +108,7 @@ pub(crate) fn offer_early<W: Weigher<Waiting>>(
 /// Whether a new witness of a type is one of its terms at once.
 fn takes_witness<W: Weigher<Waiting>>(core: &Core<W>, ty: &Ty) -> bool
     requires right { IsRightState core.now.tables core.now.plan }
-    ensures { result ≡ takes_witness core.now.plan.rule.mode (the_type ty.now) (the_state core.now.tables core.now.plan) }
+    ensures { result ≡ takes_witness core.now.plan.rule.mode (the_type ty.now) (state_in core.now) }
 {
     if core.plan.mode().terms == 0 {
         return false;
@@ -122,8 +123,8 @@ fn takes_witness<W: Weigher<Waiting>>(core: &Core<W>, ty: &Ty) -> bool
 fn denied_type(alloc: Global, basis: &Basis, lit: SatLit) -> Result<Ty, AllocError>
     requires good { IsBasis basis.now }
     requires number { IsNumberIn basis.now.lits lit }
-    requires denies { (a : SimpleType) × ((f : Lambda) × (bank_literal basis.now.bank.terms basis.now.lits lit ≡ minus (every a f))) }
-    ensures { IfOk result (λ ty. (a : SimpleType) (f : Lambda) → bank_literal basis.now.bank.terms basis.now.lits lit ≡ minus (every a f) → the_type ty ≡ a) }
+    requires denies { (a : SimpleType) × ((f : Lambda) × (the_literal basis.now lit ≡ minus (every a f))) }
+    ensures { IfOk result (λ ty. (a : SimpleType) (f : Lambda) → the_literal basis.now lit ≡ minus (every a f) → the_type ty ≡ a) }
 {
     match quantified_type(&basis.bank, basis.lits.formula_of(lit)) {
         Some(ty) => Ok(ty.try_clone(alloc)?),
@@ -139,14 +140,14 @@ pub fn offer_new<W: Weigher<Waiting>>(
 ) -> Result<(), AllocError>
     requires right { IsRightState core.old.tables core.old.plan }
     requires number { IsNumberIn core.old.tables.basis.lits lit }
-    requires denies { (a : SimpleType) × ((f : Lambda) × ((bank_literal core.old.tables.basis.bank.terms core.old.tables.basis.lits lit ≡ minus (every a f))
+    requires denies { (a : SimpleType) × ((f : Lambda) × ((the_literal core.old.tables.basis lit ≡ minus (every a f))
         × (slice_get (rows_in core.old.tables.basis) w ≡ Some (record { type = a; predicate = f })))) }
-    ensures state { OnOk result ((a : SimpleType) (f : Lambda) → bank_literal core.old.tables.basis.bank.terms core.old.tables.basis.lits lit ≡ minus (every a f)
-        → (let s = the_state core.old.tables core.old.plan in the_state core.new.tables core.new.plan ≡ with_terms core.old.plan.rule.mode a (offered_witness core.old.plan.rule.mode a (constant (witness w)) s) s)) }
-    ensures right { OnOk result (IsRightState core.new.tables core.new.plan) }
+    ensures state { OnOk result ((a : SimpleType) (f : Lambda) → the_literal core.old.tables.basis lit ≡ minus (every a f)
+        → (let s = state_in core.old in
+        state_in core.new ≡ with_terms core.old.plan.rule.mode a (offered_witness core.old.plan.rule.mode a (constant (witness w)) s) s)) }
+    ensures stays { OnOk result (StaysRight core.old core.new) }
     ensures basis { OnOk result (BasisGrows core.old.tables.basis core.new.tables.basis) }
     ensures tables { OnOk result (core.new.tables ≡ record core.old.tables { basis = core.new.tables.basis; terms = core.new.tables.terms }) }
-    ensures rule { OnOk result (core.new.plan.rule ≡ core.old.plan.rule) }
     ensures lasts { lasting core.new.tables ≡ lasting core.old.tables }
 {
     let ty = denied_type(core.tables.alloc, &core.tables.basis, lit)?;

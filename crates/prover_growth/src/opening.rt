@@ -13,7 +13,8 @@ ghost use Rattle.prover_state.specs.declared.command.Planned.{Planned};
 ghost use Rattle.prover_state.specs.declared.command.Delays.{Delays};
 ghost use Rattle.prover_state.specs.Internal.Growing.{BasisGrows};
 ghost use Rattle.prover_state.specs.Internal.Heads.{sketch_of, IsStem};
-ghost use Rattle.prover_state.specs.Internal.Standing.{scope_by, setting_by, sketches_in, state_parts, the_state, IsRightState};
+ghost use Rattle.prover_state.specs.Internal.Standing.{scope_by, sketches_in, state_parts, IsRightState};
+ghost use Rattle.prover_state.specs.Internal.Advancing.{state_in, setting_in, StaysRight};
 
 use crate::base_terms::begin_base;
 use crate::heads::push_heads;
@@ -47,10 +48,10 @@ pub(crate) fn open_stem<W: Weigher<Waiting>>(
     requires right { IsRightState core.old.tables core.old.plan }
     requires stem { IsStem (scope_by core.old.tables.basis) (sketches_in core.old.tables) stem }
     requires typed { IsStemType (scope_by core.old.tables.basis) (sketches_in core.old.tables) stem (the_type ty.now) }
-    ensures state { OnOk result (the_state core.new.tables core.new.plan ≡ with_opening (setting_by core.old.tables core.old.plan) (sketch_of (scope_by core.old.tables.basis) (sketches_in core.old.tables) stem) (the_state core.old.tables core.old.plan)) }
-    ensures right { OnOk result (IsRightState core.new.tables core.new.plan) }
+    ensures state { OnOk result (state_in core.new
+        ≡ with_opening (setting_in core.old) (sketch_of (scope_by core.old.tables.basis) (sketches_in core.old.tables) stem) (state_in core.old)) }
+    ensures stays { OnOk result (StaysRight core.old core.new) }
     ensures tables { OnOk result (core.new.tables ≡ record core.old.tables { stems = core.new.tables.stems; open_holes = core.new.tables.open_holes; holes = core.new.tables.holes; roots = core.new.tables.roots }) }
-    ensures rule { OnOk result (core.new.plan.rule ≡ core.old.plan.rule) }
     ensures lasts { lasting core.new.tables ≡ lasting core.old.tables }
 {
     let p = core.tables.stems.len();
@@ -63,10 +64,9 @@ pub(crate) fn open_stem<W: Weigher<Waiting>>(
 fn begin_function<W: Weigher<Waiting>>(core: &mut Core<W>, ty: &Ty) -> Result<(), AllocError>
     requires right { IsRightState core.old.tables core.old.plan }
     requires function { (a : SimpleType) × ((b : SimpleType) × (the_type ty.now ≡ arrow a b)) }
-    ensures state { OnOk result (the_state core.new.tables core.new.plan ≡ with_beginning (setting_by core.old.tables core.old.plan) (the_type ty.now) (the_state core.old.tables core.old.plan)) }
-    ensures right { OnOk result (IsRightState core.new.tables core.new.plan) }
+    ensures state { OnOk result (state_in core.new ≡ with_beginning (setting_in core.old) (the_type ty.now) (state_in core.old)) }
+    ensures stays { OnOk result (StaysRight core.old core.new) }
     ensures tables { OnOk result (core.new.tables ≡ record core.old.tables { stems = core.new.tables.stems; open_holes = core.new.tables.open_holes; holes = core.new.tables.holes; roots = core.new.tables.roots }) }
-    ensures rule { OnOk result (core.new.plan.rule ≡ core.old.plan.rule) }
     ensures lasts { lasting core.new.tables ≡ lasting core.old.tables }
 {
     let alloc = core.tables.alloc;
@@ -79,11 +79,10 @@ fn begin_function<W: Weigher<Waiting>>(core: &mut Core<W>, ty: &Ty) -> Result<()
 fn begin<W: Weigher<Waiting>>(core: &mut Core<W>, ty: &Ty) -> Result<(), AllocError>
     requires right { IsRightState core.old.tables core.old.plan }
     requires declared { is_declared (length core.old.tables.basis.bank.bases) (the_type ty.now) ≡ true }
-    ensures state { OnOk result (the_state core.new.tables core.new.plan ≡ with_beginning (setting_by core.old.tables core.old.plan) (the_type ty.now) (the_state core.old.tables core.old.plan)) }
-    ensures right { OnOk result (IsRightState core.new.tables core.new.plan) }
+    ensures state { OnOk result (state_in core.new ≡ with_beginning (setting_in core.old) (the_type ty.now) (state_in core.old)) }
+    ensures stays { OnOk result (StaysRight core.old core.new) }
     ensures basis { OnOk result (BasisGrows core.old.tables.basis core.new.tables.basis) }
     ensures tables { OnOk result (core.new.tables ≡ record core.old.tables { basis = core.new.tables.basis; terms = core.new.tables.terms; stems = core.new.tables.stems; open_holes = core.new.tables.open_holes; holes = core.new.tables.holes; roots = core.new.tables.roots }) }
-    ensures rule { OnOk result (core.new.plan.rule ≡ core.old.plan.rule) }
     ensures lasts { lasting core.new.tables ≡ lasting core.old.tables }
 {
     match ty {
@@ -116,7 +115,7 @@ fn is_ranged_over(tables: &Tables, ty: &Ty) -> bool
 /// Whether a type is prepared.
 pub(crate) fn is_prepared<W: Weigher<Waiting>>(core: &Core<W>, ty: &Ty) -> bool
     requires right { IsRightState core.now.tables core.now.plan }
-    ensures { result ≡ is_prepared core.now.plan.rule.mode (the_type ty.now) (the_state core.now.tables core.now.plan) }
+    ensures { result ≡ is_prepared core.now.plan.rule.mode (the_type ty.now) (state_in core.now) }
 {
     match ty {
         Ty::Base(_) => {
@@ -134,11 +133,10 @@ pub(crate) fn is_prepared<W: Weigher<Waiting>>(core: &Core<W>, ty: &Ty) -> bool
 pub fn prepare<W: Weigher<Waiting>>(core: &mut Core<W>, ty: &Ty) -> Result<(), AllocError>
     requires right { IsRightState core.old.tables core.old.plan }
     requires declared { is_declared (length core.old.tables.basis.bank.bases) (the_type ty.now) ≡ true }
-    ensures state { OnOk result (the_state core.new.tables core.new.plan ≡ with_preparation (setting_by core.old.tables core.old.plan) (the_type ty.now) (the_state core.old.tables core.old.plan)) }
-    ensures right { OnOk result (IsRightState core.new.tables core.new.plan) }
+    ensures state { OnOk result (state_in core.new ≡ with_preparation (setting_in core.old) (the_type ty.now) (state_in core.old)) }
+    ensures stays { OnOk result (StaysRight core.old core.new) }
     ensures basis { OnOk result (BasisGrows core.old.tables.basis core.new.tables.basis) }
     ensures tables { OnOk result (core.new.tables ≡ record core.old.tables { basis = core.new.tables.basis; terms = core.new.tables.terms; stems = core.new.tables.stems; open_holes = core.new.tables.open_holes; holes = core.new.tables.holes; roots = core.new.tables.roots }) }
-    ensures rule { OnOk result (core.new.plan.rule ≡ core.old.plan.rule) }
     ensures lasts { lasting core.new.tables ≡ lasting core.old.tables }
 {
     if is_prepared(core, ty) {

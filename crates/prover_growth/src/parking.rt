@@ -5,7 +5,6 @@ ghost use Rattle.stt_core.specs.SimpleType.{SimpleType, base, same_type};
 ghost use Rattle.stt_core.specs.View.{the_type};
 ghost use Rattle.command_queue.specs.Queue.{Queue};
 ghost use Rattle.instantiate.specs.Listing.{ids_of};
-ghost use Rattle.search_spec.specs.Each.{Each};
 ghost use Rattle.search_spec.specs.Partial.{Hole};
 ghost use Rattle.search_spec.specs.Witness.{is_hole_of};
 ghost use Rattle.prover_growth.specs.Internal.Stems.{IsStemType};
@@ -14,7 +13,8 @@ ghost use Rattle.prover_state.specs.declared.command.Planned.{Planned};
 ghost use Rattle.prover_state.specs.declared.command.Delays.{Delays};
 ghost use Rattle.prover_state.specs.Internal.Heads.{sketch_of, IsStem};
 ghost use Rattle.prover_state.specs.Internal.Holes.{holes_in, leftmost};
-ghost use Rattle.prover_state.specs.Internal.Standing.{scope_by, sketches_in, the_state, IsRightState};
+ghost use Rattle.prover_state.specs.Internal.Standing.{scope_by, sketches_in, IsRightState};
+ghost use Rattle.prover_state.specs.Internal.Advancing.{state_in};
 
 use command_queue::Weigher;
 use prover_state::{Core, Stem, Tables, Waiting};
@@ -85,7 +85,8 @@ pub(crate) fn park<W: Weigher<Waiting>>(
     requires right { IsRightState core.old.tables core.old.plan }
     requires stem { IsStem (scope_by core.old.tables.basis) (sketches_in core.old.tables) stem }
     requires typed { IsStemType (scope_by core.old.tables.basis) (sketches_in core.old.tables) stem (the_type ty.now) }
-    ensures state { OnOk result (let s = the_state core.old.tables core.old.plan in the_state core.new.tables core.new.plan ≡ record s { parked = s.parked ++ sketch_of (scope_by core.old.tables.basis) (sketches_in core.old.tables) stem ∷ [] }) }
+    ensures state { OnOk result (let s = state_in core.old in
+        state_in core.new ≡ record s { parked = s.parked ++ sketch_of (scope_by core.old.tables.basis) (sketches_in core.old.tables) stem ∷ [] }) }
     ensures right { OnOk result (IsRightState core.new.tables core.new.plan) }
     ensures sketches { OnOk result (sketches_in core.new.tables ≡ sketches_in core.old.tables ++ sketch_of (scope_by core.old.tables.basis) (sketches_in core.old.tables) stem ∷ []) }
     ensures tables { OnOk result (core.new.tables ≡ record core.old.tables { stems = core.new.tables.stems; open_holes = core.new.tables.open_holes; holes = core.new.tables.holes; roots = core.new.tables.roots }) }

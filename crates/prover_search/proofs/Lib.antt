@@ -13,3 +13,4 @@ pub mod SearchLaws
 mod ShapedLaws
 mod AloneUses
 mod WorkLaws
+mod AdvanceLaws

@@ -1,12 +1,12 @@
 //! A step over right tables.
-ghost use Rattle.std.specs.Prelude.{◌≡◌, ◌≢◌, ◌<◌, ◌++◌, ◌^◌, List, [], OnOk, IfOk, false};
+ghost use Rattle.std.specs.Prelude.{◌≡◌, ◌≢◌, ◌<◌, ◌++◌, ◌^◌, List, [], OnOk, IfOk};
 ghost use Rattle.sat_log.specs.declared.log.LogEntry.{LogEntry};
 ghost use Rattle.search_spec.specs.State.{moment_by};
 ghost use Rattle.search_spec.specs.Unsatisfiable.{Unsatisfiable};
 ghost use Rattle.prover_state.specs.Lasting.{declarations_of, lasting};
-ghost use Rattle.prover_state.specs.Internal.Standing.{setting_by, the_state};
 ghost use Rattle.prover_search.specs.Internal.Running.{start_in, IsRunning};
 ghost use Rattle.prover_search.specs.Internal.Answers.{StepGoesOn, AnswersStep};
+ghost use Rattle.prover_state.specs.Internal.Advancing.{state_in, setting_in};
 
 use crate::carry::carry_out;
 use crate::stepped::Stepped;
@@ -27,7 +27,7 @@ fn moment_of(clock: u32, number: u32, due: u64) -> u32
 /// The next command is carried out.
 fn go<W: Weigher<Waiting>>(core: &mut Core<W>, clock: u32, limit: u32) -> Result<(), AllocError>
     requires running { IsRunning core.old.tables core.old.plan }
-    requires satisfiable { Unsatisfiable (the_state core.old.tables core.old.plan).clauses → ⊥ }
+    requires satisfiable { Unsatisfiable (state_in core.old).clauses → ⊥ }
     requires some { core.old.plan.entries ≢ [] }
     requires clock { clock ≡ core.old.plan.rule.mode.clock }
     requires limit { limit ≡ core.old.plan.rule.mode.commands }
@@ -35,7 +35,7 @@ fn go<W: Weigher<Waiting>>(core: &mut Core<W>, clock: u32, limit: u32) -> Result
     ensures running { OnOk result (IsRunning core.new.tables core.new.plan) }
     ensures goes_on { OnOk result (StepGoesOn (record { tables = core.old.tables; plan = core.old.plan }) (record { tables = core.new.tables; plan = core.new.plan })) }
     ensures rule { OnOk result (core.new.plan.rule ≡ core.old.plan.rule) }
-    ensures setting { OnOk result (setting_by core.new.tables core.new.plan ≡ setting_by core.old.tables core.old.plan) }
+    ensures setting { OnOk result (setting_in core.new ≡ setting_in core.old) }
     ensures start { OnOk result (start_in core.new.tables ≡ start_in core.old.tables) }
     ensures lasts { lasting core.new.tables ≡ lasting core.old.tables }
 {
@@ -56,7 +56,7 @@ pub(crate) fn advance<W: Weigher<Waiting>>(
     ensures running { OnOk result (IsRunning core.new.tables core.new.plan) }
     ensures answers { IfOk result (AnswersStep (record { tables = core.old.tables; plan = core.old.plan }) (record { tables = core.new.tables; plan = core.new.plan })) }
     ensures rule { OnOk result (core.new.plan.rule ≡ core.old.plan.rule) }
-    ensures setting { OnOk result (setting_by core.new.tables core.new.plan ≡ setting_by core.old.tables core.old.plan) }
+    ensures setting { OnOk result (setting_in core.new ≡ setting_in core.old) }
     ensures start { OnOk result (start_in core.new.tables ≡ start_in core.old.tables) }
     ensures declared { declarations_of core.new.tables.basis ≡ declarations_of core.old.tables.basis }
     ensures log { (more : List LogEntry) × (core.new.tables.solver.log ≡ core.old.tables.solver.log ++ more) }

@@ -1,13 +1,14 @@
 //! Commands are carried out.
-ghost use Rattle.std.specs.Prelude.{◌≡◌, ◌<◌, ◌≤◌, suc, length, OnOk};
+ghost use Rattle.std.specs.Prelude.{◌≡◌, ◌<◌, length, OnOk};
 ghost use Rattle.search_spec.specs.Commands.{with_command};
 ghost use Rattle.search_spec.specs.Each.{Each};
 ghost use Rattle.search_spec.specs.TypedState.{IsTypedSketch, IsTypedCommand};
 ghost use Rattle.type_bound.specs.Small.{IsSmallCommand};
 ghost use Rattle.prover_state.specs.Lasting.{lasting};
 ghost use Rattle.prover_state.specs.Internal.Names.{command_at, IsNumberedCommand};
-ghost use Rattle.prover_state.specs.Internal.Standing.{scope_by, sketches_in, naming_in, setting_by, the_state, IsRightState};
-ghost use Rattle.prover_search.specs.Internal.Developing.{Develops};
+ghost use Rattle.prover_state.specs.Internal.Standing.{scope_by, sketches_in, naming_in, IsRightState};
+ghost use Rattle.prover_state.specs.Internal.Advancing.{state_in, setting_in};
+ghost use Rattle.prover_search.specs.Internal.Developing.{Advances};
 
 use crate::instances::{choose, confront, describe, instantiate, mate};
 use crate::process::process;
@@ -27,11 +28,9 @@ pub(crate) fn carry_out<W: Weigher<Waiting>>(
     requires small { IsSmallCommand (command_at (naming_in core.old.tables) command) }
     requires sketches { Each (IsTypedSketch (scope_by core.old.tables.basis)) (sketches_in core.old.tables) }
     requires few { length core.old.tables.basis.witnesses < core.old.tables.done }
-    ensures state { OnOk result (the_state core.new.tables core.new.plan ≡ with_command (setting_by core.old.tables core.old.plan) (command_at (naming_in core.old.tables) command) (the_state core.old.tables core.old.plan)) }
-    ensures right { OnOk result (IsRightState core.new.tables core.new.plan) }
-    ensures develops { OnOk result (Develops core.old.tables core.new.tables) }
-    ensures witnesses { OnOk result (length core.new.tables.basis.witnesses ≤ suc (length core.old.tables.basis.witnesses)) }
-    ensures rule { OnOk result (core.new.plan.rule ≡ core.old.plan.rule) }
+    ensures state { OnOk result (state_in core.new
+        ≡ with_command (setting_in core.old) (command_at (naming_in core.old.tables) command) (state_in core.old)) }
+    ensures advances { OnOk result (Advances core.old core.new) }
     ensures lasts { lasting core.new.tables ≡ lasting core.old.tables }
 {
     let _done = core.tables.done;

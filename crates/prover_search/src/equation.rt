@@ -1,17 +1,16 @@
 //! Equations.
-ghost use Rattle.std.specs.Prelude.{◌≡◌, ◌<◌, ◌-◌, ◌^◌, false, ℕ, suc, length, OnOk};
+ghost use Rattle.std.specs.Prelude.{◌≡◌, false, ℕ, suc, OnOk};
 ghost use Rattle.stt_core.specs.SimpleType.{base};
 ghost use Rattle.stt_core.specs.Lambda.{eq};
 ghost use Rattle.tableau_calculus.specs.Literals.{minus};
 ghost use Rattle.term_bank.specs.Terms.{term_at};
-ghost use Rattle.literal_map.specs.Atoms.{bank_atom, bank_literal};
-ghost use Rattle.search_spec.specs.Processing.{with_decomposition, with_rules};
+ghost use Rattle.search_spec.specs.Processing.{with_decomposition};
 ghost use Rattle.prover_state.specs.Lasting.{lasting};
 ghost use Rattle.prover_state.specs.Internal.Names.{IsNumberIn, IsPlace};
-ghost use Rattle.prover_state.specs.Internal.Standing.{setting_by, the_state, IsRightState};
-ghost use Rattle.prover_search.specs.Internal.Developing.{Develops};
-ghost use Rattle.prover_search.specs.Internal.Working.{denies_itself, shape_of};
+ghost use Rattle.prover_state.specs.Internal.Advancing.{the_literal, the_atom, state_in, setting_in, IsReadyCore};
+ghost use Rattle.prover_search.specs.Internal.Working.{denies_itself, shape_of, with_rules_for};
 ghost use Rattle.prover_search.specs.declared.shape.Shape.TheVariants.{FormulaEquation, FunctionEquation, BaseEquation};
+ghost use Rattle.prover_search.specs.Internal.Developing.{AdvancesAlone};
 
 use crate::alone::apply_alone;
 use crate::sides::{Sides, add_terms, offer_sides, sides_of};
@@ -28,16 +27,12 @@ pub(crate) fn work_on_formulas<W: Weigher<Waiting>>(
     core: &mut Core<W>,
     lit: SatLit,
 ) -> Result<(), AllocError>
-    requires right { IsRightState core.old.tables core.old.plan }
+    requires ready { IsReadyCore core.old }
     requires number { IsNumberIn core.old.tables.basis.lits lit }
-    requires few { length core.old.tables.basis.witnesses < 2 ^ 32 - 1 }
-    requires shape { shape_of (bank_atom core.old.tables.basis.bank.terms core.old.tables.basis.lits lit.var.0) ≡ FormulaEquation }
-    requires differs { denies_itself (bank_literal core.old.tables.basis.bank.terms core.old.tables.basis.lits lit) ≡ false }
-    ensures state { OnOk result (let l = bank_literal core.old.tables.basis.bank.terms core.old.tables.basis.lits lit in the_state core.new.tables core.new.plan ≡ with_rules (setting_by core.old.tables core.old.plan) l.positive l.atom (the_state core.old.tables core.old.plan)) }
-    ensures right { OnOk result (IsRightState core.new.tables core.new.plan) }
-    ensures develops { OnOk result (Develops core.old.tables core.new.tables) }
-    ensures witnesses { OnOk result (core.new.tables.basis.witnesses ≡ core.old.tables.basis.witnesses) }
-    ensures rule { OnOk result (core.new.plan.rule ≡ core.old.plan.rule) }
+    requires shape { shape_of (the_atom core.old.tables.basis lit) ≡ FormulaEquation }
+    requires differs { denies_itself (the_literal core.old.tables.basis lit) ≡ false }
+    ensures state { OnOk result (state_in core.new ≡ with_rules_for core.old lit) }
+    ensures advances { OnOk result (AdvancesAlone core.old core.new) }
     ensures lasts { lasting core.new.tables ≡ lasting core.old.tables }
 {
     if lit.positive {
@@ -50,17 +45,13 @@ pub(crate) fn work_on_formulas<W: Weigher<Waiting>>(
 
 /// The negation of an equation between functions: its sides are terms where they are offered, and they don't agree everywhere.
 fn work_on_unequal<W: Weigher<Waiting>>(core: &mut Core<W>, lit: SatLit) -> Result<(), AllocError>
-    requires right { IsRightState core.old.tables core.old.plan }
+    requires ready { IsReadyCore core.old }
     requires number { IsNumberIn core.old.tables.basis.lits lit }
-    requires few { length core.old.tables.basis.witnesses < 2 ^ 32 - 1 }
-    requires shape { shape_of (bank_atom core.old.tables.basis.bank.terms core.old.tables.basis.lits lit.var.0) ≡ FunctionEquation }
+    requires shape { shape_of (the_atom core.old.tables.basis lit) ≡ FunctionEquation }
     requires negative { lit.positive ≡ false }
-    requires differs { denies_itself (bank_literal core.old.tables.basis.bank.terms core.old.tables.basis.lits lit) ≡ false }
-    ensures state { OnOk result (let l = bank_literal core.old.tables.basis.bank.terms core.old.tables.basis.lits lit in the_state core.new.tables core.new.plan ≡ with_rules (setting_by core.old.tables core.old.plan) l.positive l.atom (the_state core.old.tables core.old.plan)) }
-    ensures right { OnOk result (IsRightState core.new.tables core.new.plan) }
-    ensures develops { OnOk result (Develops core.old.tables core.new.tables) }
-    ensures witnesses { OnOk result (core.new.tables.basis.witnesses ≡ core.old.tables.basis.witnesses) }
-    ensures rule { OnOk result (core.new.plan.rule ≡ core.old.plan.rule) }
+    requires differs { denies_itself (the_literal core.old.tables.basis lit) ≡ false }
+    ensures state { OnOk result (state_in core.new ≡ with_rules_for core.old lit) }
+    ensures advances { OnOk result (AdvancesAlone core.old core.new) }
     ensures lasts { lasting core.new.tables ≡ lasting core.old.tables }
 {
     offer_sides(core, lit)?;
@@ -73,16 +64,12 @@ pub(crate) fn work_on_functions<W: Weigher<Waiting>>(
     core: &mut Core<W>,
     lit: SatLit,
 ) -> Result<(), AllocError>
-    requires right { IsRightState core.old.tables core.old.plan }
+    requires ready { IsReadyCore core.old }
     requires number { IsNumberIn core.old.tables.basis.lits lit }
-    requires few { length core.old.tables.basis.witnesses < 2 ^ 32 - 1 }
-    requires shape { shape_of (bank_atom core.old.tables.basis.bank.terms core.old.tables.basis.lits lit.var.0) ≡ FunctionEquation }
-    requires differs { denies_itself (bank_literal core.old.tables.basis.bank.terms core.old.tables.basis.lits lit) ≡ false }
-    ensures state { OnOk result (let l = bank_literal core.old.tables.basis.bank.terms core.old.tables.basis.lits lit in the_state core.new.tables core.new.plan ≡ with_rules (setting_by core.old.tables core.old.plan) l.positive l.atom (the_state core.old.tables core.old.plan)) }
-    ensures right { OnOk result (IsRightState core.new.tables core.new.plan) }
-    ensures develops { OnOk result (Develops core.old.tables core.new.tables) }
-    ensures witnesses { OnOk result (core.new.tables.basis.witnesses ≡ core.old.tables.basis.witnesses) }
-    ensures rule { OnOk result (core.new.plan.rule ≡ core.old.plan.rule) }
+    requires shape { shape_of (the_atom core.old.tables.basis lit) ≡ FunctionEquation }
+    requires differs { denies_itself (the_literal core.old.tables.basis lit) ≡ false }
+    ensures state { OnOk result (state_in core.new ≡ with_rules_for core.old lit) }
+    ensures advances { OnOk result (AdvancesAlone core.old core.new) }
     ensures lasts { lasting core.new.tables ≡ lasting core.old.tables }
 {
     if lit.positive {
@@ -99,18 +86,14 @@ fn decompose<W: Weigher<Waiting>>(
     lit: SatLit,
     sides: Sides,
 ) -> Result<(), AllocError>
-    requires right { IsRightState core.old.tables core.old.plan }
+    requires ready { IsReadyCore core.old }
     requires number { IsNumberIn core.old.tables.basis.lits lit }
-    requires few { length core.old.tables.basis.witnesses < 2 ^ 32 - 1 }
     requires left_place { IsPlace core.old.tables.basis.bank.terms sides.left }
     requires right_place { IsPlace core.old.tables.basis.bank.terms sides.right }
-    requires denies { (n : ℕ) × (bank_literal core.old.tables.basis.bank.terms core.old.tables.basis.lits lit ≡ minus (eq (base (suc n)) (term_at core.old.tables.basis.bank.terms sides.left) (term_at core.old.tables.basis.bank.terms sides.right))) }
-    ensures state { OnOk result (let s = term_at core.old.tables.basis.bank.terms sides.left in let t = term_at core.old.tables.basis.bank.terms sides.right in (n : ℕ) → bank_literal core.old.tables.basis.bank.terms core.old.tables.basis.lits lit ≡ minus (eq (base (suc n)) s t)
-        → the_state core.new.tables core.new.plan ≡ with_decomposition (setting_by core.old.tables core.old.plan) (base (suc n)) s t (the_state core.old.tables core.old.plan)) }
-    ensures right { OnOk result (IsRightState core.new.tables core.new.plan) }
-    ensures develops { OnOk result (Develops core.old.tables core.new.tables) }
-    ensures witnesses { OnOk result (core.new.tables.basis.witnesses ≡ core.old.tables.basis.witnesses) }
-    ensures rule { OnOk result (core.new.plan.rule ≡ core.old.plan.rule) }
+    requires denies { (n : ℕ) × (the_literal core.old.tables.basis lit ≡ minus (eq (base (suc n)) (term_at core.old.tables.basis.bank.terms sides.left) (term_at core.old.tables.basis.bank.terms sides.right))) }
+    ensures state { OnOk result (let s = term_at core.old.tables.basis.bank.terms sides.left in let t = term_at core.old.tables.basis.bank.terms sides.right in (n : ℕ) → the_literal core.old.tables.basis lit ≡ minus (eq (base (suc n)) s t)
+        → state_in core.new ≡ with_decomposition (setting_in core.old) (base (suc n)) s t (state_in core.old)) }
+    ensures advances { OnOk result (AdvancesAlone core.old core.new) }
     ensures lasts { lasting core.new.tables ≡ lasting core.old.tables }
 {
     let _declared = core.tables.basis.bank.sig();
@@ -128,17 +111,13 @@ fn work_on_difference<W: Weigher<Waiting>>(
     lit: SatLit,
     n: u32,
 ) -> Result<(), AllocError>
-    requires right { IsRightState core.old.tables core.old.plan }
+    requires ready { IsReadyCore core.old }
     requires number { IsNumberIn core.old.tables.basis.lits lit }
-    requires few { length core.old.tables.basis.witnesses < 2 ^ 32 - 1 }
-    requires shape { shape_of (bank_atom core.old.tables.basis.bank.terms core.old.tables.basis.lits lit.var.0) ≡ BaseEquation n }
+    requires shape { shape_of (the_atom core.old.tables.basis lit) ≡ BaseEquation n }
     requires negative { lit.positive ≡ false }
-    requires differs { denies_itself (bank_literal core.old.tables.basis.bank.terms core.old.tables.basis.lits lit) ≡ false }
-    ensures state { OnOk result (let l = bank_literal core.old.tables.basis.bank.terms core.old.tables.basis.lits lit in the_state core.new.tables core.new.plan ≡ with_rules (setting_by core.old.tables core.old.plan) l.positive l.atom (the_state core.old.tables core.old.plan)) }
-    ensures right { OnOk result (IsRightState core.new.tables core.new.plan) }
-    ensures develops { OnOk result (Develops core.old.tables core.new.tables) }
-    ensures witnesses { OnOk result (core.new.tables.basis.witnesses ≡ core.old.tables.basis.witnesses) }
-    ensures rule { OnOk result (core.new.plan.rule ≡ core.old.plan.rule) }
+    requires differs { denies_itself (the_literal core.old.tables.basis lit) ≡ false }
+    ensures state { OnOk result (state_in core.new ≡ with_rules_for core.old lit) }
+    ensures advances { OnOk result (AdvancesAlone core.old core.new) }
     ensures lasts { lasting core.new.tables ≡ lasting core.old.tables }
 {
     let sides = sides_of(&core.tables.basis, lit);
@@ -154,16 +133,12 @@ pub(crate) fn work_on_terms<W: Weigher<Waiting>>(
     lit: SatLit,
     n: u32,
 ) -> Result<(), AllocError>
-    requires right { IsRightState core.old.tables core.old.plan }
+    requires ready { IsReadyCore core.old }
     requires number { IsNumberIn core.old.tables.basis.lits lit }
-    requires few { length core.old.tables.basis.witnesses < 2 ^ 32 - 1 }
-    requires shape { shape_of (bank_atom core.old.tables.basis.bank.terms core.old.tables.basis.lits lit.var.0) ≡ BaseEquation n }
-    requires differs { denies_itself (bank_literal core.old.tables.basis.bank.terms core.old.tables.basis.lits lit) ≡ false }
-    ensures state { OnOk result (let l = bank_literal core.old.tables.basis.bank.terms core.old.tables.basis.lits lit in the_state core.new.tables core.new.plan ≡ with_rules (setting_by core.old.tables core.old.plan) l.positive l.atom (the_state core.old.tables core.old.plan)) }
-    ensures right { OnOk result (IsRightState core.new.tables core.new.plan) }
-    ensures develops { OnOk result (Develops core.old.tables core.new.tables) }
-    ensures witnesses { OnOk result (core.new.tables.basis.witnesses ≡ core.old.tables.basis.witnesses) }
-    ensures rule { OnOk result (core.new.plan.rule ≡ core.old.plan.rule) }
+    requires shape { shape_of (the_atom core.old.tables.basis lit) ≡ BaseEquation n }
+    requires differs { denies_itself (the_literal core.old.tables.basis lit) ≡ false }
+    ensures state { OnOk result (state_in core.new ≡ with_rules_for core.old lit) }
+    ensures advances { OnOk result (AdvancesAlone core.old core.new) }
     ensures lasts { lasting core.new.tables ≡ lasting core.old.tables }
 {
     if !lit.positive {

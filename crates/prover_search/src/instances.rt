@@ -1,7 +1,6 @@
 //! The commands that add an instance of a rule.
-ghost use Rattle.std.specs.Prelude.{◌≡◌, ◌<◌, ◌≤◌, ◌-◌, ◌^◌, [], length, OnOk};
+ghost use Rattle.std.specs.Prelude.{◌≡◌, ◌≤◌, [], OnOk};
 ghost use Rattle.term_bank.specs.Terms.{term_at};
-ghost use Rattle.literal_map.specs.Atoms.{bank_literal};
 ghost use Rattle.witness_names.specs.Rows.{binder_of};
 ghost use Rattle.stt_core.specs.SimpleType.{predicate};
 ghost use Rattle.stt_core.specs.Canonical.{IsCanonical};
@@ -12,8 +11,9 @@ ghost use Rattle.search_spec.specs.Instances.{with_instance};
 ghost use Rattle.search_spec.specs.TypedState.{Mates, Confronts, Instantiates};
 ghost use Rattle.prover_state.specs.Lasting.{lasting};
 ghost use Rattle.prover_state.specs.Internal.Names.{IsNumberIn, IsPlace};
-ghost use Rattle.prover_state.specs.Internal.Standing.{scope_by, setting_by, the_state, IsRightState};
-ghost use Rattle.prover_search.specs.Internal.Developing.{Develops};
+ghost use Rattle.prover_state.specs.Internal.Standing.{scope_by};
+ghost use Rattle.prover_state.specs.Internal.Advancing.{the_literal, state_in, setting_in, IsReadyCore};
+ghost use Rattle.prover_search.specs.Internal.Developing.{AdvancesAlone};
 
 use command_queue::Weigher;
 use prover_state::{Core, DEPTH, Waiting};
@@ -28,16 +28,13 @@ pub(crate) fn mate<W: Weigher<Waiting>>(
     first: SatLit,
     second: SatLit,
 ) -> Result<(), AllocError>
-    requires right { IsRightState core.old.tables core.old.plan }
+    requires ready { IsReadyCore core.old }
     requires first { IsNumberIn core.old.tables.basis.lits first }
     requires second { IsNumberIn core.old.tables.basis.lits second }
-    requires few { length core.old.tables.basis.witnesses < 2 ^ 32 - 1 }
-    requires typed { Mates (scope_by core.old.tables.basis) (bank_literal core.old.tables.basis.bank.terms core.old.tables.basis.lits first) (bank_literal core.old.tables.basis.bank.terms core.old.tables.basis.lits second) }
-    ensures state { OnOk result (the_state core.new.tables core.new.plan ≡ with_mating (setting_by core.old.tables core.old.plan) (bank_literal core.old.tables.basis.bank.terms core.old.tables.basis.lits first) (bank_literal core.old.tables.basis.bank.terms core.old.tables.basis.lits second) (the_state core.old.tables core.old.plan)) }
-    ensures right { OnOk result (IsRightState core.new.tables core.new.plan) }
-    ensures develops { OnOk result (Develops core.old.tables core.new.tables) }
-    ensures witnesses { OnOk result (core.new.tables.basis.witnesses ≡ core.old.tables.basis.witnesses) }
-    ensures rule { OnOk result (core.new.plan.rule ≡ core.old.plan.rule) }
+    requires typed { Mates (scope_by core.old.tables.basis) (the_literal core.old.tables.basis first) (the_literal core.old.tables.basis second) }
+    ensures state { OnOk result (state_in core.new
+        ≡ with_mating (setting_in core.old) (the_literal core.old.tables.basis first) (the_literal core.old.tables.basis second) (state_in core.old)) }
+    ensures advances { OnOk result (AdvancesAlone core.old core.new) }
     ensures lasts { lasting core.new.tables ≡ lasting core.old.tables }
 {
     let _declared = core.tables.basis.bank.sig();
@@ -51,16 +48,13 @@ pub(crate) fn confront<W: Weigher<Waiting>>(
     first: SatLit,
     second: SatLit,
 ) -> Result<(), AllocError>
-    requires right { IsRightState core.old.tables core.old.plan }
+    requires ready { IsReadyCore core.old }
     requires first { IsNumberIn core.old.tables.basis.lits first }
     requires second { IsNumberIn core.old.tables.basis.lits second }
-    requires few { length core.old.tables.basis.witnesses < 2 ^ 32 - 1 }
-    requires typed { Confronts (scope_by core.old.tables.basis) (bank_literal core.old.tables.basis.bank.terms core.old.tables.basis.lits first) (bank_literal core.old.tables.basis.bank.terms core.old.tables.basis.lits second) }
-    ensures state { OnOk result (let l = bank_literal core.old.tables.basis.bank.terms core.old.tables.basis.lits first in let m = bank_literal core.old.tables.basis.bank.terms core.old.tables.basis.lits second in the_state core.new.tables core.new.plan ≡ with_confrontation (setting_by core.old.tables core.old.plan) l m l.atom m.atom (the_state core.old.tables core.old.plan)) }
-    ensures right { OnOk result (IsRightState core.new.tables core.new.plan) }
-    ensures develops { OnOk result (Develops core.old.tables core.new.tables) }
-    ensures witnesses { OnOk result (core.new.tables.basis.witnesses ≡ core.old.tables.basis.witnesses) }
-    ensures rule { OnOk result (core.new.plan.rule ≡ core.old.plan.rule) }
+    requires typed { Confronts (scope_by core.old.tables.basis) (the_literal core.old.tables.basis first) (the_literal core.old.tables.basis second) }
+    ensures state { OnOk result (let l = the_literal core.old.tables.basis first in let m = the_literal core.old.tables.basis second in
+        state_in core.new ≡ with_confrontation (setting_in core.old) l m l.atom m.atom (state_in core.old)) }
+    ensures advances { OnOk result (AdvancesAlone core.old core.new) }
     ensures lasts { lasting core.new.tables ≡ lasting core.old.tables }
 {
     core.apply_rule(RuleUse::AtTwo(TwoPlaces::Con, first, second))?;
@@ -73,17 +67,15 @@ pub(crate) fn instantiate<W: Weigher<Waiting>>(
     lit: SatLit,
     id: Id,
 ) -> Result<(), AllocError>
-    requires right { IsRightState core.old.tables core.old.plan }
+    requires ready { IsReadyCore core.old }
     requires number { IsNumberIn core.old.tables.basis.lits lit }
     requires place { IsPlace core.old.tables.basis.bank.terms id }
-    requires few { length core.old.tables.basis.witnesses < 2 ^ 32 - 1 }
     requires small { type_depth (term_at core.old.tables.basis.bank.terms id) ≤ type_limit }
-    requires typed { Instantiates (scope_by core.old.tables.basis) (bank_literal core.old.tables.basis.bank.terms core.old.tables.basis.lits lit) (term_at core.old.tables.basis.bank.terms id) }
-    ensures state { OnOk result (let l = bank_literal core.old.tables.basis.bank.terms core.old.tables.basis.lits lit in the_state core.new.tables core.new.plan ≡ with_instantiation (setting_by core.old.tables core.old.plan) l l.atom (term_at core.old.tables.basis.bank.terms id) (the_state core.old.tables core.old.plan)) }
-    ensures right { OnOk result (IsRightState core.new.tables core.new.plan) }
-    ensures develops { OnOk result (Develops core.old.tables core.new.tables) }
-    ensures witnesses { OnOk result (core.new.tables.basis.witnesses ≡ core.old.tables.basis.witnesses) }
-    ensures rule { OnOk result (core.new.plan.rule ≡ core.old.plan.rule) }
+    requires typed { Instantiates (scope_by core.old.tables.basis) (the_literal core.old.tables.basis lit) (term_at core.old.tables.basis.bank.terms id) }
+    ensures state { OnOk result (let l = the_literal core.old.tables.basis lit in
+        state_in core.new
+        ≡ with_instantiation (setting_in core.old) l l.atom (term_at core.old.tables.basis.bank.terms id) (state_in core.old)) }
+    ensures advances { OnOk result (AdvancesAlone core.old core.new) }
     ensures lasts { lasting core.new.tables ≡ lasting core.old.tables }
 {
     if core.tables.basis.bank.depth(id) > DEPTH {
@@ -95,16 +87,13 @@ pub(crate) fn instantiate<W: Weigher<Waiting>>(
 
 /// A value is chosen by a predicate.
 pub(crate) fn choose<W: Weigher<Waiting>>(core: &mut Core<W>, id: Id) -> Result<(), AllocError>
-    requires right { IsRightState core.old.tables core.old.plan }
+    requires ready { IsReadyCore core.old }
     requires place { IsPlace core.old.tables.basis.bank.terms id }
-    requires few { length core.old.tables.basis.witnesses < 2 ^ 32 - 1 }
     requires small { IsSmallTerm (term_at core.old.tables.basis.bank.terms id) }
     requires typed { let f = term_at core.old.tables.basis.bank.terms id in IsCanonical (scope_by core.old.tables.basis) [] (predicate (binder_of f)) f }
-    ensures state { OnOk result (let f = term_at core.old.tables.basis.bank.terms id in the_state core.new.tables core.new.plan ≡ with_instance core.old.plan.rule.mode [] (cho (binder_of f) f) (the_state core.old.tables core.old.plan)) }
-    ensures right { OnOk result (IsRightState core.new.tables core.new.plan) }
-    ensures develops { OnOk result (Develops core.old.tables core.new.tables) }
-    ensures witnesses { OnOk result (core.new.tables.basis.witnesses ≡ core.old.tables.basis.witnesses) }
-    ensures rule { OnOk result (core.new.plan.rule ≡ core.old.plan.rule) }
+    ensures state { OnOk result (let f = term_at core.old.tables.basis.bank.terms id in
+        state_in core.new ≡ with_instance core.old.plan.rule.mode [] (cho (binder_of f) f) (state_in core.old)) }
+    ensures advances { OnOk result (AdvancesAlone core.old core.new) }
     ensures lasts { lasting core.new.tables ≡ lasting core.old.tables }
 {
     core.apply_rule(RuleUse::WithPredicate(OfPredicate::Cho, id))?;
@@ -113,16 +102,13 @@ pub(crate) fn choose<W: Weigher<Waiting>>(core: &mut Core<W>, id: Id) -> Result<
 
 /// A value is described by a predicate.
 pub(crate) fn describe<W: Weigher<Waiting>>(core: &mut Core<W>, id: Id) -> Result<(), AllocError>
-    requires right { IsRightState core.old.tables core.old.plan }
+    requires ready { IsReadyCore core.old }
     requires place { IsPlace core.old.tables.basis.bank.terms id }
-    requires few { length core.old.tables.basis.witnesses < 2 ^ 32 - 1 }
     requires small { IsSmallTerm (term_at core.old.tables.basis.bank.terms id) }
     requires typed { let f = term_at core.old.tables.basis.bank.terms id in IsCanonical (scope_by core.old.tables.basis) [] (predicate (binder_of f)) f }
-    ensures state { OnOk result (let f = term_at core.old.tables.basis.bank.terms id in the_state core.new.tables core.new.plan ≡ with_instance core.old.plan.rule.mode [] (des (binder_of f) f) (the_state core.old.tables core.old.plan)) }
-    ensures right { OnOk result (IsRightState core.new.tables core.new.plan) }
-    ensures develops { OnOk result (Develops core.old.tables core.new.tables) }
-    ensures witnesses { OnOk result (core.new.tables.basis.witnesses ≡ core.old.tables.basis.witnesses) }
-    ensures rule { OnOk result (core.new.plan.rule ≡ core.old.plan.rule) }
+    ensures state { OnOk result (let f = term_at core.old.tables.basis.bank.terms id in
+        state_in core.new ≡ with_instance core.old.plan.rule.mode [] (des (binder_of f) f) (state_in core.old)) }
+    ensures advances { OnOk result (AdvancesAlone core.old core.new) }
     ensures lasts { lasting core.new.tables ≡ lasting core.old.tables }
 {
     core.apply_rule(RuleUse::WithPredicate(OfPredicate::Des, id))?;

@@ -3,12 +3,12 @@ ghost use Rattle.std.specs.Prelude.{◌≡◌, ◌<◌, length, map, filter, IfO
 ghost use Rattle.std.specs.List.{All};
 ghost use Rattle.tableau_calculus.specs.Start.{without_repeats};
 ghost use Rattle.term_bank.specs.Terms.{term_at};
-ghost use Rattle.literal_map.specs.Atoms.{bank_literal};
 ghost use Rattle.search_spec.specs.Offers.{offered_heads};
 ghost use Rattle.search_spec.specs.Shallow.{is_shallow_literal};
 ghost use Rattle.head_offers.specs.Offering.{the_offers};
 ghost use Rattle.prover_state.specs.Internal.Names.{IsNumberIn};
 ghost use Rattle.prover_state.specs.Internal.Standing.{without_witnesses, IsBasis};
+ghost use Rattle.prover_state.specs.Internal.Advancing.{the_literal};
 
 use head_offers::{Offers, offered_heads};
 use mode_file::Mode;
@@ -22,7 +22,7 @@ fn shallow_atoms(alloc: Global, basis: &Basis, start: &[SatLit]) -> Result<Vec<I
     requires basis { IsBasis basis.now }
     requires numbers { All (IsNumberIn basis.now.lits) start.now }
     ensures within { IfOk result (λ atoms. All (λ id. id < length basis.now.bank.terms) atoms.items) }
-    ensures atoms { IfOk result (λ atoms. map (term_at basis.now.bank.terms) atoms.items ≡ map (λ l. l.atom) (filter is_shallow_literal (map (bank_literal basis.now.bank.terms basis.now.lits) start.now))) }
+    ensures atoms { IfOk result (λ atoms. map (term_at basis.now.bank.terms) atoms.items ≡ map (λ l. l.atom) (filter is_shallow_literal (map (the_literal basis.now) start.now))) }
 {
     let mut atoms = Vec::new(alloc);
     for i in 0..start.len() {
@@ -43,7 +43,7 @@ pub(crate) fn start_offers(
 ) -> Result<Offers, AllocError>
     requires basis { IsBasis basis.now }
     requires numbers { All (IsNumberIn basis.now.lits) start.now }
-    ensures { IfOk result (λ offers. the_offers offers ≡ offered_heads mode.now (without_witnesses basis.now.bank) (filter is_shallow_literal (without_repeats (map (bank_literal basis.now.bank.terms basis.now.lits) start.now)))) }
+    ensures { IfOk result (λ offers. the_offers offers ≡ offered_heads mode.now (without_witnesses basis.now.bank) (filter is_shallow_literal (without_repeats (map (the_literal basis.now) start.now)))) }
 {
     let atoms = shallow_atoms(alloc, basis, start)?;
     offered_heads(alloc, mode, &basis.bank, atoms.as_slice())

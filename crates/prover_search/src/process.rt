@@ -1,11 +1,10 @@
 //! Literals are processed.
-ghost use Rattle.std.specs.Prelude.{◌≡◌, ◌<◌, ◌≤◌, ◌-◌, ◌^◌, suc, length, OnOk};
-ghost use Rattle.literal_map.specs.Atoms.{bank_literal};
+ghost use Rattle.std.specs.Prelude.{◌≡◌, OnOk};
 ghost use Rattle.search_spec.specs.Processing.{with_processing};
 ghost use Rattle.prover_state.specs.Lasting.{lasting};
 ghost use Rattle.prover_state.specs.Internal.Names.{IsNumberIn};
-ghost use Rattle.prover_state.specs.Internal.Standing.{setting_by, the_state, IsRightState};
-ghost use Rattle.prover_search.specs.Internal.Developing.{Develops};
+ghost use Rattle.prover_state.specs.Internal.Advancing.{the_literal, state_in, setting_in, IsReadyCore};
+ghost use Rattle.prover_search.specs.Internal.Developing.{Advances};
 
 use crate::work::work;
 use command_queue::Weigher;
@@ -18,14 +17,11 @@ pub(crate) fn process<W: Weigher<Waiting>>(
     core: &mut Core<W>,
     lit: SatLit,
 ) -> Result<(), AllocError>
-    requires right { IsRightState core.old.tables core.old.plan }
+    requires ready { IsReadyCore core.old }
     requires number { IsNumberIn core.old.tables.basis.lits lit }
-    requires few { length core.old.tables.basis.witnesses < 2 ^ 32 - 1 }
-    ensures state { OnOk result (the_state core.new.tables core.new.plan ≡ with_processing (setting_by core.old.tables core.old.plan) (bank_literal core.old.tables.basis.bank.terms core.old.tables.basis.lits lit) (the_state core.old.tables core.old.plan)) }
-    ensures right { OnOk result (IsRightState core.new.tables core.new.plan) }
-    ensures develops { OnOk result (Develops core.old.tables core.new.tables) }
-    ensures witnesses { OnOk result (length core.new.tables.basis.witnesses ≤ suc (length core.old.tables.basis.witnesses)) }
-    ensures rule { OnOk result (core.new.plan.rule ≡ core.old.plan.rule) }
+    ensures state { OnOk result (state_in core.new
+        ≡ with_processing (setting_in core.old) (the_literal core.old.tables.basis lit) (state_in core.old)) }
+    ensures advances { OnOk result (Advances core.old core.new) }
     ensures lasts { lasting core.new.tables ≡ lasting core.old.tables }
 {
     work(core, lit)?;

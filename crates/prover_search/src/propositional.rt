@@ -1,13 +1,11 @@
 //! Falsity and implications.
-ghost use Rattle.std.specs.Prelude.{◌≡◌, ◌<◌, ◌-◌, ◌^◌, length, OnOk};
-ghost use Rattle.literal_map.specs.Atoms.{bank_atom, bank_literal};
-ghost use Rattle.search_spec.specs.Processing.{with_rules};
+ghost use Rattle.std.specs.Prelude.{◌≡◌, OnOk};
 ghost use Rattle.prover_state.specs.Lasting.{lasting};
 ghost use Rattle.prover_state.specs.Internal.Names.{IsNumberIn};
-ghost use Rattle.prover_state.specs.Internal.Standing.{setting_by, the_state, IsRightState};
-ghost use Rattle.prover_search.specs.Internal.Developing.{Develops};
-ghost use Rattle.prover_search.specs.Internal.Working.{shape_of};
+ghost use Rattle.prover_state.specs.Internal.Advancing.{the_atom, state_in, IsReadyCore};
+ghost use Rattle.prover_search.specs.Internal.Working.{shape_of, with_rules_for};
 ghost use Rattle.prover_search.specs.declared.shape.Shape.TheVariants.{Falsity, Implication};
+ghost use Rattle.prover_search.specs.Internal.Developing.{AdvancesAlone};
 
 use crate::alone::apply_alone;
 use command_queue::Weigher;
@@ -21,15 +19,11 @@ pub(crate) fn work_on_falsity<W: Weigher<Waiting>>(
     core: &mut Core<W>,
     lit: SatLit,
 ) -> Result<(), AllocError>
-    requires right { IsRightState core.old.tables core.old.plan }
+    requires ready { IsReadyCore core.old }
     requires number { IsNumberIn core.old.tables.basis.lits lit }
-    requires few { length core.old.tables.basis.witnesses < 2 ^ 32 - 1 }
-    requires shape { shape_of (bank_atom core.old.tables.basis.bank.terms core.old.tables.basis.lits lit.var.0) ≡ Falsity }
-    ensures state { OnOk result (let l = bank_literal core.old.tables.basis.bank.terms core.old.tables.basis.lits lit in the_state core.new.tables core.new.plan ≡ with_rules (setting_by core.old.tables core.old.plan) l.positive l.atom (the_state core.old.tables core.old.plan)) }
-    ensures right { OnOk result (IsRightState core.new.tables core.new.plan) }
-    ensures develops { OnOk result (Develops core.old.tables core.new.tables) }
-    ensures witnesses { OnOk result (core.new.tables.basis.witnesses ≡ core.old.tables.basis.witnesses) }
-    ensures rule { OnOk result (core.new.plan.rule ≡ core.old.plan.rule) }
+    requires shape { shape_of (the_atom core.old.tables.basis lit) ≡ Falsity }
+    ensures state { OnOk result (state_in core.new ≡ with_rules_for core.old lit) }
+    ensures advances { OnOk result (AdvancesAlone core.old core.new) }
     ensures lasts { lasting core.new.tables ≡ lasting core.old.tables }
 {
     if !lit.positive {
@@ -44,15 +38,11 @@ pub(crate) fn work_on_implication<W: Weigher<Waiting>>(
     core: &mut Core<W>,
     lit: SatLit,
 ) -> Result<(), AllocError>
-    requires right { IsRightState core.old.tables core.old.plan }
+    requires ready { IsReadyCore core.old }
     requires number { IsNumberIn core.old.tables.basis.lits lit }
-    requires few { length core.old.tables.basis.witnesses < 2 ^ 32 - 1 }
-    requires shape { shape_of (bank_atom core.old.tables.basis.bank.terms core.old.tables.basis.lits lit.var.0) ≡ Implication }
-    ensures state { OnOk result (let l = bank_literal core.old.tables.basis.bank.terms core.old.tables.basis.lits lit in the_state core.new.tables core.new.plan ≡ with_rules (setting_by core.old.tables core.old.plan) l.positive l.atom (the_state core.old.tables core.old.plan)) }
-    ensures right { OnOk result (IsRightState core.new.tables core.new.plan) }
-    ensures develops { OnOk result (Develops core.old.tables core.new.tables) }
-    ensures witnesses { OnOk result (core.new.tables.basis.witnesses ≡ core.old.tables.basis.witnesses) }
-    ensures rule { OnOk result (core.new.plan.rule ≡ core.old.plan.rule) }
+    requires shape { shape_of (the_atom core.old.tables.basis lit) ≡ Implication }
+    ensures state { OnOk result (state_in core.new ≡ with_rules_for core.old lit) }
+    ensures advances { OnOk result (AdvancesAlone core.old core.new) }
     ensures lasts { lasting core.new.tables ≡ lasting core.old.tables }
 {
     if lit.positive {

@@ -3,9 +3,9 @@ ghost use Rattle.std.specs.Prelude.{◌≡◌, ◌<◌, List, length};
 ghost use Rattle.stt_core.specs.Lambda.{Lambda, applied};
 ghost use Rattle.stt_core.specs.View.{the_head, the_type};
 ghost use Rattle.term_bank.specs.Terms.{term_at};
-ghost use Rattle.literal_map.specs.Atoms.{bank_atom, bank_literal};
 ghost use Rattle.prover_state.specs.Internal.Names.{IsNumberIn, IsPlace};
 ghost use Rattle.prover_state.specs.Internal.Standing.{IsBasis};
+ghost use Rattle.prover_state.specs.Internal.Advancing.{the_literal, the_atom};
 ghost use Rattle.prover_search.specs.Internal.Working.{denies_itself, equation_shape, shape_of};
 
 use prover_state::{Basis, has_equal_sides};
@@ -100,7 +100,7 @@ pub(crate) fn atom_of(basis: &Basis, lit: SatLit) -> Id
     requires basis { IsBasis basis.now }
     requires number { IsNumberIn basis.now.lits lit }
     ensures place { IsPlace basis.now.bank.terms result }
-    ensures atom { term_at basis.now.bank.terms result ≡ bank_atom basis.now.bank.terms basis.now.lits lit.var.0 }
+    ensures atom { term_at basis.now.bank.terms result ≡ the_atom basis.now lit }
 {
     basis.lits.formula_of(lit)
 }
@@ -109,7 +109,7 @@ pub(crate) fn atom_of(basis: &Basis, lit: SatLit) -> Id
 pub(crate) fn denies_itself(basis: &Basis, lit: SatLit) -> bool
     requires basis { IsBasis basis.now }
     requires number { IsNumberIn basis.now.lits lit }
-    ensures { result ≡ denies_itself (bank_literal basis.now.bank.terms basis.now.lits lit) }
+    ensures { result ≡ denies_itself (the_literal basis.now lit) }
 {
     if lit.positive {
         return false;

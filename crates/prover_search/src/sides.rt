@@ -5,14 +5,14 @@ ghost use Rattle.stt_core.specs.Lambda.{Lambda, eq};
 ghost use Rattle.stt_core.specs.View.{the_head, the_type};
 ghost use Rattle.tableau_calculus.specs.Internal.Heads.{equality_of};
 ghost use Rattle.term_bank.specs.Terms.{term_at};
-ghost use Rattle.literal_map.specs.Atoms.{bank_atom};
 ghost use Rattle.search_spec.specs.Offers.{offered_sides};
 ghost use Rattle.search_spec.specs.Spine.{head_of};
 ghost use Rattle.search_spec.specs.Terms.{with_term, with_terms};
 ghost use Rattle.prover_state.specs.Lasting.{lasting};
 ghost use Rattle.prover_state.specs.Internal.Names.{IsNumberIn, IsPlace};
 ghost use Rattle.prover_state.specs.Internal.Pending.{equation_type};
-ghost use Rattle.prover_state.specs.Internal.Standing.{the_state, IsBasis, IsRightState};
+ghost use Rattle.prover_state.specs.Internal.Standing.{IsBasis, IsRightState};
+ghost use Rattle.prover_state.specs.Internal.Advancing.{the_atom, state_in, StaysRight};
 ghost use Rattle.prover_search.specs.Internal.Working.{shape_of, IsEquated};
 ghost use Rattle.prover_search.specs.declared.shape.Shape.TheVariants.{FunctionEquation};
 
@@ -35,10 +35,10 @@ pub(crate) struct Sides {
 pub(crate) fn sides_of(basis: &Basis, lit: SatLit) -> Sides
     requires basis { IsBasis basis.now }
     requires number { IsNumberIn basis.now.lits lit }
-    requires equation { IsEquated (bank_atom basis.now.bank.terms basis.now.lits lit.var.0) }
+    requires equation { IsEquated (the_atom basis.now lit) }
     ensures left { IsPlace basis.now.bank.terms result.left }
     ensures right { IsPlace basis.now.bank.terms result.right }
-    ensures equation { let t = bank_atom basis.now.bank.terms basis.now.lits lit.var.0 in t ≡ eq (equation_type t) (term_at basis.now.bank.terms result.left) (term_at basis.now.bank.terms result.right) }
+    ensures equation { let t = the_atom basis.now lit in t ≡ eq (equation_type t) (term_at basis.now.bank.terms result.left) (term_at basis.now.bank.terms result.right) }
 {
     let atom = atom_of(basis, lit);
     Sides {
@@ -56,10 +56,11 @@ pub(crate) fn add_terms<W: Weigher<Waiting>>(
     requires right { IsRightState core.old.tables core.old.plan }
     requires left_place { IsPlace core.old.tables.basis.bank.terms sides.left }
     requires right_place { IsPlace core.old.tables.basis.bank.terms sides.right }
-    ensures state { OnOk result (let mode = core.old.plan.rule.mode in let a = the_type ty.now in the_state core.new.tables core.new.plan ≡ with_term mode a (term_at core.old.tables.basis.bank.terms sides.right) (with_term mode a (term_at core.old.tables.basis.bank.terms sides.left) (the_state core.old.tables core.old.plan))) }
-    ensures right { OnOk result (IsRightState core.new.tables core.new.plan) }
+    ensures state { OnOk result (let mode = core.old.plan.rule.mode in let a = the_type ty.now in
+        state_in core.new
+        ≡ with_term mode a (term_at core.old.tables.basis.bank.terms sides.right) (with_term mode a (term_at core.old.tables.basis.bank.terms sides.left) (state_in core.old))) }
+    ensures stays { OnOk result (StaysRight core.old core.new) }
     ensures tables { OnOk result (core.new.tables ≡ record core.old.tables { terms = core.new.tables.terms }) }
-    ensures rule { OnOk result (core.new.plan.rule ≡ core.old.plan.rule) }
     ensures lasts { lasting core.new.tables ≡ lasting core.old.tables }
 {
     core.add_term(ty, sides.left)?;
@@ -99,8 +100,8 @@ fn equated_type(bank: &Bank, id: Id) -> Option<&Ty>
 fn type_of_sides(alloc: Global, basis: &Basis, lit: SatLit) -> Result<Ty, AllocError>
     requires basis { IsBasis basis.now }
     requires number { IsNumberIn basis.now.lits lit }
-    requires shape { shape_of (bank_atom basis.now.bank.terms basis.now.lits lit.var.0) ≡ FunctionEquation }
-    ensures { IfOk result (λ ty. the_type ty ≡ equation_type (bank_atom basis.now.bank.terms basis.now.lits lit.var.0)) }
+    requires shape { shape_of (the_atom basis.now lit) ≡ FunctionEquation }
+    ensures { IfOk result (λ ty. the_type ty ≡ equation_type (the_atom basis.now lit)) }
 {
     match equated_type(&basis.bank, atom_of(basis, lit)) {
         Some(ty) => Ok(ty.try_clone(alloc)?),
@@ -115,12 +116,11 @@ pub(crate) fn offer_sides<W: Weigher<Waiting>>(
 ) -> Result<(), AllocError>
     requires right { IsRightState core.old.tables core.old.plan }
     requires number { IsNumberIn core.old.tables.basis.lits lit }
-    requires shape { shape_of (bank_atom core.old.tables.basis.bank.terms core.old.tables.basis.lits lit.var.0) ≡ FunctionEquation }
-    ensures state { OnOk result ((a : SimpleType) (s t : Lambda) → bank_atom core.old.tables.basis.bank.terms core.old.tables.basis.lits lit.var.0 ≡ eq a s t
-        → (let mode = core.old.plan.rule.mode in the_state core.new.tables core.new.plan ≡ with_terms mode a (offered_sides mode s t) (the_state core.old.tables core.old.plan))) }
-    ensures right { OnOk result (IsRightState core.new.tables core.new.plan) }
+    requires shape { shape_of (the_atom core.old.tables.basis lit) ≡ FunctionEquation }
+    ensures state { OnOk result ((a : SimpleType) (s t : Lambda) → the_atom core.old.tables.basis lit ≡ eq a s t
+        → (let mode = core.old.plan.rule.mode in state_in core.new ≡ with_terms mode a (offered_sides mode s t) (state_in core.old))) }
+    ensures stays { OnOk result (StaysRight core.old core.new) }
     ensures tables { OnOk result (core.new.tables ≡ record core.old.tables { terms = core.new.tables.terms }) }
-    ensures rule { OnOk result (core.new.plan.rule ≡ core.old.plan.rule) }
     ensures lasts { lasting core.new.tables ≡ lasting core.old.tables }
 {
     if core.plan.mode().terms == 0 {

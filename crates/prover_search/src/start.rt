@@ -2,7 +2,6 @@
 ghost use Rattle.std.specs.Prelude.{◌≡◌, ◌<◌, [], ◌∷◌, map, OnOk};
 ghost use Rattle.std.specs.List.{All};
 ghost use Rattle.tableau_calculus.specs.Start.{without_repeats};
-ghost use Rattle.sat_base.specs.declared.literal.SatLit.{SatLit};
 ghost use Rattle.sat_core.specs.Solver.{learned};
 ghost use Rattle.search_spec.specs.After.{nothing_yet};
 ghost use Rattle.head_offers.specs.Offering.{the_offers};
@@ -10,7 +9,8 @@ ghost use Rattle.search_spec.specs.Instances.{with_instance};
 ghost use Rattle.literal_map.specs.Atoms.{bank_literal};
 ghost use Rattle.tableau_clauses.specs.Table.{the_clauses};
 ghost use Rattle.prover_state.specs.Internal.Names.{IsNumberIn};
-ghost use Rattle.prover_state.specs.Internal.Standing.{the_state, IsRightState};
+ghost use Rattle.prover_state.specs.Internal.Standing.{IsRightState};
+ghost use Rattle.prover_state.specs.Internal.Advancing.{the_literal, state_in, StaysRight};
 ghost use Rattle.prover_search.specs.Internal.Starting.{AddsUnit, AddsStart, IsStarting};
 
 use command_queue::Weigher;
@@ -49,11 +49,11 @@ fn add_unit(
 fn start_with<W: Weigher<Waiting>>(core: &mut Core<W>, lit: SatLit) -> Result<(), AllocError>
     requires right { IsRightState core.old.tables core.old.plan }
     requires number { IsNumberIn core.old.tables.basis.lits lit }
-    ensures state { OnOk result (the_state core.new.tables core.new.plan ≡ with_instance core.old.plan.rule.mode [] ((bank_literal core.old.tables.basis.bank.terms core.old.tables.basis.lits lit ∷ []) ∷ []) (the_state core.old.tables core.old.plan)) }
-    ensures right { OnOk result (IsRightState core.new.tables core.new.plan) }
+    ensures state { OnOk result (state_in core.new
+        ≡ with_instance core.old.plan.rule.mode [] ((the_literal core.old.tables.basis lit ∷ []) ∷ []) (state_in core.old)) }
+    ensures stays { OnOk result (StaysRight core.old core.new) }
     ensures basis { OnOk result (core.new.tables.basis ≡ core.old.tables.basis) }
     ensures steps { OnOk result (AddsStart lit core.old.tables core.new.tables) }
-    ensures rule { OnOk result (core.new.plan.rule ≡ core.old.plan.rule) }
 {
     let basis = &core.tables.basis;
     if basis.bank.depth(basis.lits.formula_of(lit)) > DEPTH {
@@ -74,7 +74,7 @@ pub(crate) fn start_all<W: Weigher<Waiting>>(
     core: &mut Core<W>,
     start: &[SatLit],
 ) -> Result<(), AllocError>
-    requires state { the_state core.old.tables core.old.plan ≡ record nothing_yet { offers = the_offers core.old.tables.offers } }
+    requires state { state_in core.old ≡ record nothing_yet { offers = the_offers core.old.tables.offers } }
     requires right { IsRightState core.old.tables core.old.plan }
     requires steps { core.old.tables.steps ≡ ([], []) }
     requires numbers { All (IsNumberIn core.old.tables.basis.lits) start.now }

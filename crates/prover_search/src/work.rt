@@ -1,13 +1,12 @@
 //! What is done for a literal.
-ghost use Rattle.std.specs.Prelude.{◌≡◌, ◌<◌, ◌≤◌, ◌-◌, ◌^◌, false, suc, length, OnOk};
-ghost use Rattle.literal_map.specs.Atoms.{bank_atom, bank_literal};
-ghost use Rattle.search_spec.specs.Processing.{with_rules};
+ghost use Rattle.std.specs.Prelude.{◌≡◌, false, OnOk};
 ghost use Rattle.prover_state.specs.Lasting.{lasting};
 ghost use Rattle.prover_state.specs.Internal.Names.{IsNumberIn};
-ghost use Rattle.prover_state.specs.Internal.Standing.{setting_by, the_state, IsRightState};
-ghost use Rattle.prover_search.specs.Internal.Developing.{Develops};
-ghost use Rattle.prover_search.specs.Internal.Working.{denies_itself, shape_of};
+ghost use Rattle.prover_state.specs.Internal.Standing.{IsRightState};
+ghost use Rattle.prover_state.specs.Internal.Advancing.{the_literal, the_atom, state_in, IsReadyCore};
+ghost use Rattle.prover_search.specs.Internal.Working.{denies_itself, shape_of, with_rules_for};
 ghost use Rattle.prover_search.specs.declared.shape.Shape.TheVariants.{Other as OtherShape};
+ghost use Rattle.prover_search.specs.Internal.Developing.{Advances, AdvancesAlone};
 
 use crate::alone::apply_alone;
 use crate::equation::{work_on_formulas, work_on_functions, work_on_terms};
@@ -25,12 +24,9 @@ use tableau_calculus::OnePlace;
 fn work_on_other<W: Weigher<Waiting>>(core: &mut Core<W>, lit: SatLit) -> Result<(), AllocError>
     requires right { IsRightState core.old.tables core.old.plan }
     requires number { IsNumberIn core.old.tables.basis.lits lit }
-    requires shape { shape_of (bank_atom core.old.tables.basis.bank.terms core.old.tables.basis.lits lit.var.0) ≡ OtherShape }
-    ensures state { OnOk result (let l = bank_literal core.old.tables.basis.bank.terms core.old.tables.basis.lits lit in the_state core.new.tables core.new.plan ≡ with_rules (setting_by core.old.tables core.old.plan) l.positive l.atom (the_state core.old.tables core.old.plan)) }
-    ensures right { OnOk result (IsRightState core.new.tables core.new.plan) }
-    ensures develops { OnOk result (Develops core.old.tables core.new.tables) }
-    ensures witnesses { OnOk result (core.new.tables.basis.witnesses ≡ core.old.tables.basis.witnesses) }
-    ensures rule { OnOk result (core.new.plan.rule ≡ core.old.plan.rule) }
+    requires shape { shape_of (the_atom core.old.tables.basis lit) ≡ OtherShape }
+    ensures state { OnOk result (state_in core.new ≡ with_rules_for core.old lit) }
+    ensures advances { OnOk result (AdvancesAlone core.old core.new) }
     ensures lasts { lasting core.new.tables ≡ lasting core.old.tables }
 {
     let atom = atom_of(&core.tables.basis, lit);
@@ -43,15 +39,11 @@ fn work_on_other<W: Weigher<Waiting>>(core: &mut Core<W>, lit: SatLit) -> Result
 
 /// What the shape of a literal asks for, unless it denies that a term equals itself.
 fn work_by_shape<W: Weigher<Waiting>>(core: &mut Core<W>, lit: SatLit) -> Result<(), AllocError>
-    requires right { IsRightState core.old.tables core.old.plan }
+    requires ready { IsReadyCore core.old }
     requires number { IsNumberIn core.old.tables.basis.lits lit }
-    requires few { length core.old.tables.basis.witnesses < 2 ^ 32 - 1 }
-    requires differs { denies_itself (bank_literal core.old.tables.basis.bank.terms core.old.tables.basis.lits lit) ≡ false }
-    ensures state { OnOk result (let l = bank_literal core.old.tables.basis.bank.terms core.old.tables.basis.lits lit in the_state core.new.tables core.new.plan ≡ with_rules (setting_by core.old.tables core.old.plan) l.positive l.atom (the_state core.old.tables core.old.plan)) }
-    ensures right { OnOk result (IsRightState core.new.tables core.new.plan) }
-    ensures develops { OnOk result (Develops core.old.tables core.new.tables) }
-    ensures witnesses { OnOk result (length core.new.tables.basis.witnesses ≤ suc (length core.old.tables.basis.witnesses)) }
-    ensures rule { OnOk result (core.new.plan.rule ≡ core.old.plan.rule) }
+    requires differs { denies_itself (the_literal core.old.tables.basis lit) ≡ false }
+    ensures state { OnOk result (state_in core.new ≡ with_rules_for core.old lit) }
+    ensures advances { OnOk result (Advances core.old core.new) }
     ensures lasts { lasting core.new.tables ≡ lasting core.old.tables }
 {
     let atom = atom_of(&core.tables.basis, lit);
@@ -68,14 +60,10 @@ fn work_by_shape<W: Weigher<Waiting>>(core: &mut Core<W>, lit: SatLit) -> Result
 
 /// What the shape of a literal asks for. That a term differs from itself is refuted.
 pub(crate) fn work<W: Weigher<Waiting>>(core: &mut Core<W>, lit: SatLit) -> Result<(), AllocError>
-    requires right { IsRightState core.old.tables core.old.plan }
+    requires ready { IsReadyCore core.old }
     requires number { IsNumberIn core.old.tables.basis.lits lit }
-    requires few { length core.old.tables.basis.witnesses < 2 ^ 32 - 1 }
-    ensures state { OnOk result (let l = bank_literal core.old.tables.basis.bank.terms core.old.tables.basis.lits lit in the_state core.new.tables core.new.plan ≡ with_rules (setting_by core.old.tables core.old.plan) l.positive l.atom (the_state core.old.tables core.old.plan)) }
-    ensures right { OnOk result (IsRightState core.new.tables core.new.plan) }
-    ensures develops { OnOk result (Develops core.old.tables core.new.tables) }
-    ensures witnesses { OnOk result (length core.new.tables.basis.witnesses ≤ suc (length core.old.tables.basis.witnesses)) }
-    ensures rule { OnOk result (core.new.plan.rule ≡ core.old.plan.rule) }
+    ensures state { OnOk result (state_in core.new ≡ with_rules_for core.old lit) }
+    ensures advances { OnOk result (Advances core.old core.new) }
     ensures lasts { lasting core.new.tables ≡ lasting core.old.tables }
 {
     if denies_itself(&core.tables.basis, lit) {

@@ -19,3 +19,4 @@ pub mod Shapes
 pub mod Pending
 pub mod Pieces
 pub mod Marks
+pub mod Advancing

@@ -1,12 +1,12 @@
 //! Instances of rules.
 ghost use Rattle.std.specs.Prelude.{◌≡◌, map, OnOk};
-ghost use Rattle.literal_map.specs.Atoms.{bank_literal};
 ghost use Rattle.search_spec.specs.Each.{Each};
 ghost use Rattle.search_spec.specs.Instances.{with_instance};
 ghost use Rattle.prover_state.specs.Lasting.{lasting};
 ghost use Rattle.prover_state.specs.Internal.Names.{IsNumberIn};
-ghost use Rattle.prover_state.specs.Internal.Standing.{the_state, IsRightState};
+ghost use Rattle.prover_state.specs.Internal.Standing.{IsRightState};
 ghost use Rattle.prover_state.specs.Internal.Steps.{StepsGrow};
+ghost use Rattle.prover_state.specs.Internal.Advancing.{the_literal, state_in, StaysRight};
 
 use crate::clauses::{add_clauses, all_shallow, joined};
 use crate::tables::Core;
@@ -23,11 +23,10 @@ impl<W: Weigher<Waiting>> Core<W> {
         requires right { IsRightState self.old.tables self.old.plan }
         requires principals { Each (IsNumberIn self.old.tables.basis.lits) instance.principals }
         requires alternatives { Each (Each (IsNumberIn self.old.tables.basis.lits)) instance.alternatives }
-        ensures state { OnOk result (let d = bank_literal self.old.tables.basis.bank.terms self.old.tables.basis.lits in the_state self.new.tables self.new.plan ≡ with_instance self.old.plan.rule.mode (map d instance.principals) (map (map d) instance.alternatives) (the_state self.old.tables self.old.plan)) }
-        ensures right { OnOk result (IsRightState self.new.tables self.new.plan) }
+        ensures state { OnOk result (let d = the_literal self.old.tables.basis in state_in self.new ≡ with_instance self.old.plan.rule.mode (map d instance.principals) (map (map d) instance.alternatives) (state_in self.old)) }
+        ensures stays { OnOk result (StaysRight self.old self.new) }
         ensures tables { OnOk result (self.new.tables ≡ record self.old.tables { seen = self.new.tables.seen; steps = self.new.tables.steps; solver = self.new.tables.solver }) }
         ensures steps { OnOk result (StepsGrow (λ i. i ≡ instance) self.old.tables.steps self.new.tables.steps) }
-        ensures rule { OnOk result (self.new.plan.rule ≡ self.old.plan.rule) }
         ensures lasts { lasting self.new.tables ≡ lasting self.old.tables }
     {
         let basis = &self.tables.basis;

@@ -1,13 +1,13 @@
 //! Literals that were processed.
 ghost use Rattle.std.specs.Prelude.{◌≡◌, ◌<◌, [], ◌∷◌, ◌++◌, length, if◌then◌else◌, OnOk};
 ghost use Rattle.stt_core.specs.SimpleType.{SimpleType};
-ghost use Rattle.literal_map.specs.Atoms.{bank_literal};
 ghost use Rattle.mating_rules.specs.Noted.{IsRightIndex};
 ghost use Rattle.instantiate.specs.Listing.{ids_of};
 ghost use Rattle.search_spec.specs.Each.{Each};
 ghost use Rattle.prover_state.specs.Lasting.{lasting};
 ghost use Rattle.prover_state.specs.Internal.Names.{IsNumberIn};
-ghost use Rattle.prover_state.specs.Internal.Standing.{can_pair, is_universal, the_state, IsBasis, IsRightState};
+ghost use Rattle.prover_state.specs.Internal.Standing.{can_pair, is_universal, IsBasis, IsRightState};
+ghost use Rattle.prover_state.specs.Internal.Advancing.{the_literal, state_in};
 
 use crate::fitting::small;
 use crate::shape::{has_equal_sides, quantified_type};
@@ -63,7 +63,7 @@ impl<W: Weigher<Waiting>> Core<W> {
     pub fn note_literal(&mut self, lit: SatLit) -> Result<(), AllocError>
         requires right { IsRightState self.old.tables self.old.plan }
         requires number { IsNumberIn self.old.tables.basis.lits lit }
-        ensures state { OnOk result (let s = the_state self.old.tables self.old.plan in the_state self.new.tables self.new.plan ≡ record s { noted = s.noted ++ bank_literal self.old.tables.basis.bank.terms self.old.tables.basis.lits lit ∷ [] }) }
+        ensures state { OnOk result (let s = state_in self.old in state_in self.new ≡ record s { noted = s.noted ++ the_literal self.old.tables.basis lit ∷ [] }) }
         ensures right { OnOk result (IsRightState self.new.tables self.new.plan) }
         ensures tables { OnOk result (self.new.tables ≡ record self.old.tables { noted = self.new.tables.noted; index = self.new.tables.index; universals = self.new.tables.universals }) }
         ensures plan { self.new.plan ≡ self.old.plan }

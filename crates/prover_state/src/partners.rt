@@ -1,6 +1,5 @@
 //! Loops over the partners of a literal, and over the terms for one.
 ghost use Rattle.std.specs.Prelude.{◌≡◌, true, map, OnOk};
-ghost use Rattle.literal_map.specs.Atoms.{bank_atom, bank_literal};
 ghost use Rattle.search_spec.specs.Partners.{matings, confrontations};
 ghost use Rattle.search_spec.specs.Spine.{is_spine};
 ghost use Rattle.search_spec.specs.State.{inst, with_commands};
@@ -8,7 +7,8 @@ ghost use Rattle.search_spec.specs.Terms.{terms_of};
 ghost use Rattle.prover_state.specs.Internal.Names.{IsNumberIn};
 ghost use Rattle.prover_state.specs.Internal.Pending.{equation_type, range_of};
 ghost use Rattle.prover_state.specs.Internal.Shapes.{IsBaseEquation, IsQuantifiedFormula};
-ghost use Rattle.prover_state.specs.Internal.Standing.{the_state, IsRightState};
+ghost use Rattle.prover_state.specs.Internal.Standing.{IsRightState};
+ghost use Rattle.prover_state.specs.Internal.Advancing.{the_literal, the_atom, state_in, StaysRight};
 
 use crate::clauses::literal_of;
 use crate::command::{Command, Over};
@@ -25,11 +25,10 @@ impl<W: Weigher<Waiting>> Core<W> {
     pub fn push_matings(&mut self, lit: SatLit) -> Result<(), AllocError>
         requires right { IsRightState self.old.tables self.old.plan }
         requires number { IsNumberIn self.old.tables.basis.lits lit }
-        requires spine { is_spine (bank_atom self.old.tables.basis.bank.terms self.old.tables.basis.lits lit.var.0) ≡ true }
-        ensures state { OnOk result (let s = the_state self.old.tables self.old.plan in the_state self.new.tables self.new.plan ≡ with_commands self.old.plan.rule.mode (matings (bank_literal self.old.tables.basis.bank.terms self.old.tables.basis.lits lit) s.noted) s) }
-        ensures right { OnOk result (IsRightState self.new.tables self.new.plan) }
+        requires spine { is_spine (the_atom self.old.tables.basis lit) ≡ true }
+        ensures state { OnOk result (let s = state_in self.old in state_in self.new ≡ with_commands self.old.plan.rule.mode (matings (the_literal self.old.tables.basis lit) s.noted) s) }
+        ensures stays { OnOk result (StaysRight self.old self.new) }
         ensures tables { self.new.tables ≡ self.old.tables }
-        ensures rule { OnOk result (self.new.plan.rule ≡ self.old.plan.rule) }
     {
         let partners = self.tables.partners(lit)?;
         let count = partners.len();
@@ -48,11 +47,10 @@ impl<W: Weigher<Waiting>> Core<W> {
     pub fn push_confrontations(&mut self, lit: SatLit) -> Result<(), AllocError>
         requires right { IsRightState self.old.tables self.old.plan }
         requires number { IsNumberIn self.old.tables.basis.lits lit }
-        requires equation { IsBaseEquation (bank_atom self.old.tables.basis.bank.terms self.old.tables.basis.lits lit.var.0) }
-        ensures state { OnOk result (let s = the_state self.old.tables self.old.plan in let l = bank_literal self.old.tables.basis.bank.terms self.old.tables.basis.lits lit in the_state self.new.tables self.new.plan ≡ with_commands self.old.plan.rule.mode (confrontations (equation_type l.atom) l s.noted) s) }
-        ensures right { OnOk result (IsRightState self.new.tables self.new.plan) }
+        requires equation { IsBaseEquation (the_atom self.old.tables.basis lit) }
+        ensures state { OnOk result (let s = state_in self.old in let l = the_literal self.old.tables.basis lit in state_in self.new ≡ with_commands self.old.plan.rule.mode (confrontations (equation_type l.atom) l s.noted) s) }
+        ensures stays { OnOk result (StaysRight self.old self.new) }
         ensures tables { self.new.tables ≡ self.old.tables }
-        ensures rule { OnOk result (self.new.plan.rule ≡ self.old.plan.rule) }
     {
         let partners = self.tables.partners(lit)?;
         let count = partners.len();
@@ -70,11 +68,10 @@ impl<W: Weigher<Waiting>> Core<W> {
     pub fn push_instances(&mut self, lit: SatLit) -> Result<(), AllocError>
         requires right { IsRightState self.old.tables self.old.plan }
         requires number { IsNumberIn self.old.tables.basis.lits lit }
-        requires quantified { IsQuantifiedFormula (bank_atom self.old.tables.basis.bank.terms self.old.tables.basis.lits lit.var.0) }
-        ensures state { OnOk result (let s = the_state self.old.tables self.old.plan in let l = bank_literal self.old.tables.basis.bank.terms self.old.tables.basis.lits lit in the_state self.new.tables self.new.plan ≡ with_commands self.old.plan.rule.mode (map (inst l) (terms_of (range_of l.atom) s)) s) }
-        ensures right { OnOk result (IsRightState self.new.tables self.new.plan) }
+        requires quantified { IsQuantifiedFormula (the_atom self.old.tables.basis lit) }
+        ensures state { OnOk result (let s = state_in self.old in let l = the_literal self.old.tables.basis lit in state_in self.new ≡ with_commands self.old.plan.rule.mode (map (inst l) (terms_of (range_of l.atom) s)) s) }
+        ensures stays { OnOk result (StaysRight self.old self.new) }
         ensures tables { self.new.tables ≡ self.old.tables }
-        ensures rule { OnOk result (self.new.plan.rule ≡ self.old.plan.rule) }
     {
         let ids = listed_under(&self.tables.basis, &self.tables.terms, lit);
         let count = ids.len();

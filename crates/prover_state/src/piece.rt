@@ -4,7 +4,8 @@ ghost use Rattle.search_spec.specs.State.{brings_default, with_commands};
 ghost use Rattle.prover_state.specs.Internal.Names.{command_at, IsNumberedCommand};
 ghost use Rattle.prover_state.specs.Internal.Pending.{loop_over, between, BeginsWith, HasWitnesses, IsSigned};
 ghost use Rattle.prover_state.specs.Internal.Pieces.{extra_delay, numbered_loop, even_until, IsPiece, IsLoop};
-ghost use Rattle.prover_state.specs.Internal.Standing.{without_witnesses, naming_in, sources, the_state, IsRightState};
+ghost use Rattle.prover_state.specs.Internal.Standing.{without_witnesses, naming_in, sources, IsRightState};
+ghost use Rattle.prover_state.specs.Internal.Advancing.{state_in, StaysRight};
 
 use crate::command::{Command, Over, Planned, Rest};
 use crate::head::{head_of, numbered_head};
@@ -81,10 +82,9 @@ impl<W: Weigher<Waiting>> Core<W> {
         requires right { IsRightState self.old.tables self.old.plan }
         requires fits { IsLoop self.old.tables over piece.first }
         requires piece { IsPiece self.old.plan.rule.mode self.old.tables over piece.first piece end }
-        ensures state { OnOk result (the_state self.new.tables self.new.plan ≡ with_commands self.old.plan.rule.mode (between piece.from end (numbered_loop self.old.tables over piece.first)) (the_state self.old.tables self.old.plan)) }
-        ensures right { OnOk result (IsRightState self.new.tables self.new.plan) }
+        ensures state { OnOk result (state_in self.new ≡ with_commands self.old.plan.rule.mode (between piece.from end (numbered_loop self.old.tables over piece.first)) (state_in self.old)) }
+        ensures stays { OnOk result (StaysRight self.old self.new) }
         ensures tables { self.new.tables ≡ self.old.tables }
-        ensures rule { OnOk result (self.new.plan.rule ≡ self.old.plan.rule) }
     {
         let rest = Rest::between(over, piece.from + 1, end);
         let first = piece.first;
@@ -107,10 +107,9 @@ impl<W: Weigher<Waiting>> Core<W> {
         requires piece { IsPiece self.old.plan.rule.mode self.old.tables over first piece place }
         requires within { place < length (numbered_loop self.old.tables over first) }
         ensures piece { IfOk result (λ next. IsPiece self.old.plan.rule.mode self.old.tables over first next (place + 1)) }
-        ensures state { IfOk result (λ next. let mode = self.old.plan.rule.mode in let loop = numbered_loop self.old.tables over first in with_commands mode (drop next.from loop) (the_state self.new.tables self.new.plan) ≡ with_commands mode (drop piece.from loop) (the_state self.old.tables self.old.plan)) }
-        ensures right { OnOk result (IsRightState self.new.tables self.new.plan) }
+        ensures state { IfOk result (λ next. let mode = self.old.plan.rule.mode in let loop = numbered_loop self.old.tables over first in with_commands mode (drop next.from loop) (state_in self.new) ≡ with_commands mode (drop piece.from loop) (state_in self.old)) }
+        ensures stays { OnOk result (StaysRight self.old self.new) }
         ensures tables { self.new.tables ≡ self.old.tables }
-        ensures rule { OnOk result (self.new.plan.rule ≡ self.old.plan.rule) }
     {
         let command = self.tables.command_of(first, over, place)?;
         let extra = self.extra_delay(command);
@@ -133,10 +132,9 @@ impl<W: Weigher<Waiting>> Core<W> {
         requires count { count ≡ length (loop_over (without_witnesses self.old.tables.basis.bank) (sources self.old.tables) over (command_at (naming_in self.old.tables) first)) }
         requires witnesses { HasWitnesses (sources self.old.tables) over }
         requires signed { IsSigned over (command_at (naming_in self.old.tables) first) }
-        ensures state { OnOk result (the_state self.new.tables self.new.plan ≡ with_commands self.old.plan.rule.mode (loop_over (without_witnesses self.old.tables.basis.bank) (sources self.old.tables) over (command_at (naming_in self.old.tables) first)) (the_state self.old.tables self.old.plan)) }
-        ensures right { OnOk result (IsRightState self.new.tables self.new.plan) }
+        ensures state { OnOk result (state_in self.new ≡ with_commands self.old.plan.rule.mode (loop_over (without_witnesses self.old.tables.basis.bank) (sources self.old.tables) over (command_at (naming_in self.old.tables) first)) (state_in self.old)) }
+        ensures stays { OnOk result (StaysRight self.old self.new) }
         ensures tables { self.new.tables ≡ self.old.tables }
-        ensures rule { OnOk result (self.new.plan.rule ≡ self.old.plan.rule) }
     {
         let extra = self.extra_delay(first);
         let mut piece = Piece {

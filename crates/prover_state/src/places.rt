@@ -3,7 +3,6 @@ ghost use Rattle.std.specs.Prelude.{◌≡◌, ◌<◌, ◌≤◌, [], length, S
 ghost use Rattle.stt_core.specs.SimpleType.{base};
 ghost use Rattle.search_spec.specs.Partial.{first_hole};
 ghost use Rattle.command_queue.specs.Queue.{Queue};
-ghost use Rattle.literal_map.specs.Atoms.{bank_literal};
 ghost use Rattle.mating_rules.specs.Noted.{partners_of};
 ghost use Rattle.instantiate.specs.Listing.{ids_of};
 ghost use Rattle.prover_state.specs.declared.command.Planned.{Planned};
@@ -11,6 +10,7 @@ ghost use Rattle.prover_state.specs.declared.command.Delays.{Delays};
 ghost use Rattle.prover_state.specs.Internal.Names.{command_at, sketch_at, IsNumberIn, IsNumberedCommand};
 ghost use Rattle.prover_state.specs.Internal.Pending.{base_of, range_of, over_terms, over_universals, over_negatives, over_positives, over_heads, over_parked, HasWitnesses, IsSigned, loop_over};
 ghost use Rattle.prover_state.specs.Internal.Standing.{without_witnesses, naming_in, sketches_in, sources, IsBasis, IsRightState};
+ghost use Rattle.prover_state.specs.Internal.Advancing.{the_literal};
 ghost use Rattle.prover_state.specs.declared.command.Over.TheVariants.{Negatives, Positives};
 
 use crate::clauses::literal_of;
@@ -44,7 +44,7 @@ fn number_at(numbers: &[u32], i: usize) -> usize
 pub(crate) fn listed_under<'a>(basis: &Basis, list: &'a Enumerator, lit: SatLit) -> &'a [Id]
     requires basis { IsBasis basis.now }
     requires number { IsNumberIn basis.now.lits lit }
-    ensures { result.now ≡ ids_of (range_of (bank_literal basis.now.bank.terms basis.now.lits lit).atom) list.now }
+    ensures { result.now ≡ ids_of (range_of (the_literal basis.now lit).atom) list.now }
 {
     let atom = basis.lits.formula_of(lit);
     match quantified_type(&basis.bank, atom) {

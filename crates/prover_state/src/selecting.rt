@@ -1,12 +1,12 @@
 //! The choices and the descriptions in a formula.
 ghost use Rattle.std.specs.Prelude.{◌≡◌, OnOk};
 ghost use Rattle.term_bank.specs.Terms.{term_at};
-ghost use Rattle.literal_map.specs.Atoms.{bank_atom};
 ghost use Rattle.search_spec.specs.Selections.{selections_in, with_selections};
 ghost use Rattle.prover_state.specs.Lasting.{lasting};
 ghost use Rattle.prover_state.specs.Internal.Names.{IsNumberIn, IsPlace};
 ghost use Rattle.prover_state.specs.Internal.Selecting.{head_selection};
-ghost use Rattle.prover_state.specs.Internal.Standing.{the_state, IsRightState};
+ghost use Rattle.prover_state.specs.Internal.Standing.{IsRightState};
+ghost use Rattle.prover_state.specs.Internal.Advancing.{the_atom, state_in, StaysRight};
 
 use crate::clauses::DEPTH;
 use crate::selected::{Selected, count_parts, part_of, selection_of};
@@ -22,10 +22,9 @@ impl<W: Weigher<Waiting>> Core<W> {
     fn select_head(&mut self, id: Id) -> Result<(), AllocError>
         requires right { IsRightState self.old.tables self.old.plan }
         requires place { IsPlace self.old.tables.basis.bank.terms id }
-        ensures state { OnOk result (the_state self.new.tables self.new.plan ≡ with_selections self.old.plan.rule.mode (head_selection (term_at self.old.tables.basis.bank.terms id)) (the_state self.old.tables self.old.plan)) }
-        ensures right { OnOk result (IsRightState self.new.tables self.new.plan) }
+        ensures state { OnOk result (state_in self.new ≡ with_selections self.old.plan.rule.mode (head_selection (term_at self.old.tables.basis.bank.terms id)) (state_in self.old)) }
+        ensures stays { OnOk result (StaysRight self.old self.new) }
         ensures tables { OnOk result (self.new.tables ≡ record self.old.tables { chosen = self.new.tables.chosen; described = self.new.tables.described }) }
-        ensures rule { OnOk result (self.new.plan.rule ≡ self.old.plan.rule) }
         ensures lasts { lasting self.new.tables ≡ lasting self.old.tables }
     {
         // The node is asked for its clause that the term is typed.
@@ -41,10 +40,9 @@ impl<W: Weigher<Waiting>> Core<W> {
     fn walk(&mut self, id: Id) -> Result<(), AllocError>
         requires right { IsRightState self.old.tables self.old.plan }
         requires place { IsPlace self.old.tables.basis.bank.terms id }
-        ensures state { OnOk result (the_state self.new.tables self.new.plan ≡ with_selections self.old.plan.rule.mode (selections_in (term_at self.old.tables.basis.bank.terms id)) (the_state self.old.tables self.old.plan)) }
-        ensures right { OnOk result (IsRightState self.new.tables self.new.plan) }
+        ensures state { OnOk result (state_in self.new ≡ with_selections self.old.plan.rule.mode (selections_in (term_at self.old.tables.basis.bank.terms id)) (state_in self.old)) }
+        ensures stays { OnOk result (StaysRight self.old self.new) }
         ensures tables { OnOk result (self.new.tables ≡ record self.old.tables { chosen = self.new.tables.chosen; described = self.new.tables.described; walked = self.new.tables.walked }) }
-        ensures rule { OnOk result (self.new.plan.rule ≡ self.old.plan.rule) }
         ensures lasts { lasting self.new.tables ≡ lasting self.old.tables }
     {
         if self.tables.walked.contains(id) {
@@ -67,10 +65,9 @@ impl<W: Weigher<Waiting>> Core<W> {
     pub fn select(&mut self, lit: SatLit) -> Result<(), AllocError>
         requires right { IsRightState self.old.tables self.old.plan }
         requires number { IsNumberIn self.old.tables.basis.lits lit }
-        ensures state { OnOk result (the_state self.new.tables self.new.plan ≡ with_selections self.old.plan.rule.mode (selections_in (bank_atom self.old.tables.basis.bank.terms self.old.tables.basis.lits lit.var.0)) (the_state self.old.tables self.old.plan)) }
-        ensures right { OnOk result (IsRightState self.new.tables self.new.plan) }
+        ensures state { OnOk result (state_in self.new ≡ with_selections self.old.plan.rule.mode (selections_in (the_atom self.old.tables.basis lit)) (state_in self.old)) }
+        ensures stays { OnOk result (StaysRight self.old self.new) }
         ensures tables { OnOk result (self.new.tables ≡ record self.old.tables { chosen = self.new.tables.chosen; described = self.new.tables.described; walked = self.new.tables.walked }) }
-        ensures rule { OnOk result (self.new.plan.rule ≡ self.old.plan.rule) }
         ensures lasts { lasting self.new.tables ≡ lasting self.old.tables }
     {
         let atom = self.tables.basis.lits.formula_of(lit);

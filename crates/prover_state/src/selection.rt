@@ -5,7 +5,8 @@ ghost use Rattle.witness_names.specs.Rows.{binder_of};
 ghost use Rattle.search_spec.specs.Selections.{with_selection, by_choice, by_description};
 ghost use Rattle.prover_state.specs.Lasting.{lasting};
 ghost use Rattle.prover_state.specs.Internal.Names.{IsPlace};
-ghost use Rattle.prover_state.specs.Internal.Standing.{the_state, IsRightState};
+ghost use Rattle.prover_state.specs.Internal.Standing.{IsRightState};
+ghost use Rattle.prover_state.specs.Internal.Advancing.{state_in, StaysRight};
 
 use crate::command::Command;
 use crate::tables::Core;
@@ -19,10 +20,9 @@ impl<W: Weigher<Waiting>> Core<W> {
     pub fn choose(&mut self, predicate: Id) -> Result<(), AllocError>
         requires right { IsRightState self.old.tables self.old.plan }
         requires place { IsPlace self.old.tables.basis.bank.terms predicate }
-        ensures state { OnOk result (let f = term_at self.old.tables.basis.bank.terms predicate in the_state self.new.tables self.new.plan ≡ with_selection self.old.plan.rule.mode (by_choice (binder_of f) f) (the_state self.old.tables self.old.plan)) }
-        ensures right { OnOk result (IsRightState self.new.tables self.new.plan) }
+        ensures state { OnOk result (let f = term_at self.old.tables.basis.bank.terms predicate in state_in self.new ≡ with_selection self.old.plan.rule.mode (by_choice (binder_of f) f) (state_in self.old)) }
+        ensures stays { OnOk result (StaysRight self.old self.new) }
         ensures tables { OnOk result (self.new.tables ≡ record self.old.tables { chosen = self.new.tables.chosen }) }
-        ensures rule { OnOk result (self.new.plan.rule ≡ self.old.plan.rule) }
         ensures lasts { lasting self.new.tables ≡ lasting self.old.tables }
     {
         equal_ids_for_equal_terms(&self.tables.basis.bank);
@@ -37,10 +37,9 @@ impl<W: Weigher<Waiting>> Core<W> {
     pub fn describe(&mut self, predicate: Id) -> Result<(), AllocError>
         requires right { IsRightState self.old.tables self.old.plan }
         requires place { IsPlace self.old.tables.basis.bank.terms predicate }
-        ensures state { OnOk result (let f = term_at self.old.tables.basis.bank.terms predicate in the_state self.new.tables self.new.plan ≡ with_selection self.old.plan.rule.mode (by_description (binder_of f) f) (the_state self.old.tables self.old.plan)) }
-        ensures right { OnOk result (IsRightState self.new.tables self.new.plan) }
+        ensures state { OnOk result (let f = term_at self.old.tables.basis.bank.terms predicate in state_in self.new ≡ with_selection self.old.plan.rule.mode (by_description (binder_of f) f) (state_in self.old)) }
+        ensures stays { OnOk result (StaysRight self.old self.new) }
         ensures tables { OnOk result (self.new.tables ≡ record self.old.tables { described = self.new.tables.described }) }
-        ensures rule { OnOk result (self.new.plan.rule ≡ self.old.plan.rule) }
         ensures lasts { lasting self.new.tables ≡ lasting self.old.tables }
     {
         equal_ids_for_equal_terms(&self.tables.basis.bank);

@@ -5,7 +5,8 @@ ghost use Rattle.sat_base.specs.declared.literal.SatLit.{SatLit};
 ghost use Rattle.sat_log.specs.Propagation.{AreFailingDecisions, ReachesFalse};
 ghost use Rattle.sat_core.specs.Solver.{learned, AreAmong, SolverGrows};
 ghost use Rattle.search_spec.specs.Unsatisfiable.{Unsatisfiable};
-ghost use Rattle.prover_state.specs.Internal.Standing.{the_state, IsRightState};
+ghost use Rattle.prover_state.specs.Internal.Standing.{IsRightState};
+ghost use Rattle.prover_state.specs.Internal.Advancing.{state_in};
 
 use crate::tables::Core;
 use crate::waiting::Waiting;
@@ -20,8 +21,8 @@ impl<W: Weigher<Waiting>> Core<W> {
     pub fn solve(&mut self, conflicts: u64) -> Result<Answer, AllocError>
         requires right { IsRightState self.old.tables self.old.plan }
         requires budget { conflicts ≡ self.old.plan.rule.mode.conflicts }
-        ensures unsat { IfOk result (λ answer. answer ≡ Answer.Unsat → Unsatisfiable (the_state self.old.tables self.old.plan).clauses) }
-        ensures sat { IfOk result (λ answer. answer ≡ Answer.Sat → Unsatisfiable (the_state self.old.tables self.old.plan).clauses → ⊥) }
+        ensures unsat { IfOk result (λ answer. answer ≡ Answer.Unsat → Unsatisfiable (state_in self.old).clauses) }
+        ensures sat { IfOk result (λ answer. answer ≡ Answer.Sat → Unsatisfiable (state_in self.old).clauses → ⊥) }
         ensures ends { IfOk result (λ answer. answer ≡ Answer.Unsat → self.new.tables.solver.is_refuted ≡ true) }
         ensures propagated { IfOk result (λ answer. answer ≡ Answer.Unsat → ReachesFalse (self.new.tables.solver.clauses ++ learned self.new.tables.solver) []) }
         ensures reported { IfOk result (λ answer. (spent : ℕ) → answer ≡ Answer.Spent spent → spent ≡ conflicts) }

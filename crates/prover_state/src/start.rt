@@ -4,7 +4,8 @@ ghost use Rattle.search_spec.specs.After.{nothing_yet};
 ghost use Rattle.head_offers.specs.Offering.{the_offers};
 ghost use Rattle.prover_state.specs.Delays.{delay_by};
 ghost use Rattle.prover_state.specs.Internal.Empty.{AreEmpty};
-ghost use Rattle.prover_state.specs.Internal.Standing.{the_state, IsBasis, IsRightState};
+ghost use Rattle.prover_state.specs.Internal.Standing.{IsBasis, IsRightState};
+ghost use Rattle.prover_state.specs.Internal.Advancing.{state_in};
 
 use crate::by_base::ByBase;
 use crate::holes::OpenHoles;
@@ -71,7 +72,7 @@ impl<W: Weigher<Waiting>> Core<W> {
         requires unwitnessed { basis.witnesses ≡ [] }
         requires callable { W.is_callable weigher }
         requires answers { W.answers weigher (λ waiting now. now + delay_by mode waiting.first) }
-        ensures state { IfOk result (λ core. the_state core.tables core.plan ≡ record nothing_yet { offers = the_offers offers }) }
+        ensures state { IfOk result (λ core. state_in core ≡ record nothing_yet { offers = the_offers offers }) }
         ensures right { IfOk result (λ core. IsRightState core.tables core.plan) }
         ensures basis { IfOk result (λ core. core.tables.basis ≡ basis) }
         ensures mode { IfOk result (λ core. core.plan.rule.mode ≡ mode) }

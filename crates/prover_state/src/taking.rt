@@ -2,6 +2,7 @@
 ghost use Rattle.std.specs.Prelude.{◌≡◌, ◌≢◌, ◌<◌, [], IfOk, OnOk};
 ghost use Rattle.prover_state.specs.Internal.Standing.{IsRightState};
 ghost use Rattle.prover_state.specs.Internal.Taking.{TakesNext, rest_behind};
+ghost use Rattle.prover_state.specs.Internal.Advancing.{StaysRight};
 
 use crate::command::{Command, Planned, Rest};
 use crate::tables::Core;
@@ -28,9 +29,8 @@ impl<W: Weigher<Waiting>> Core<W> {
         requires right { IsRightState self.old.tables self.old.plan }
         requires some { self.old.plan.entries ≢ [] }
         ensures takes { IfOk result (TakesNext self.old.tables self.old.plan self.new.plan) }
-        ensures right { OnOk result (IsRightState self.new.tables self.new.plan) }
+        ensures stays { OnOk result (StaysRight self.old self.new) }
         ensures tables { self.new.tables ≡ self.old.tables }
-        ensures rule { OnOk result (self.new.plan.rule ≡ self.old.plan.rule) }
     {
         // The number of pushes is asked for its type: the numbers of commands are below it.
         let _pushes = self.plan.pushes();

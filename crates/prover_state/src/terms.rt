@@ -5,7 +5,8 @@ ghost use Rattle.term_bank.specs.Terms.{term_at};
 ghost use Rattle.search_spec.specs.Terms.{with_term};
 ghost use Rattle.prover_state.specs.Lasting.{lasting};
 ghost use Rattle.prover_state.specs.Internal.Names.{IsPlace};
-ghost use Rattle.prover_state.specs.Internal.Standing.{the_state, IsRightState};
+ghost use Rattle.prover_state.specs.Internal.Standing.{IsRightState};
+ghost use Rattle.prover_state.specs.Internal.Advancing.{state_in, StaysRight};
 
 use crate::clauses::literal_of;
 use crate::command::{Command, Over};
@@ -22,10 +23,9 @@ impl<W: Weigher<Waiting>> Core<W> {
     pub fn add_term(&mut self, ty: &Ty, id: Id) -> Result<(), AllocError>
         requires right { IsRightState self.old.tables self.old.plan }
         requires place { IsPlace self.old.tables.basis.bank.terms id }
-        ensures state { OnOk result (the_state self.new.tables self.new.plan ≡ with_term self.old.plan.rule.mode (the_type ty.now) (term_at self.old.tables.basis.bank.terms id) (the_state self.old.tables self.old.plan)) }
-        ensures right { OnOk result (IsRightState self.new.tables self.new.plan) }
+        ensures state { OnOk result (state_in self.new ≡ with_term self.old.plan.rule.mode (the_type ty.now) (term_at self.old.tables.basis.bank.terms id) (state_in self.old)) }
+        ensures stays { OnOk result (StaysRight self.old self.new) }
         ensures tables { OnOk result (self.new.tables ≡ record self.old.tables { terms = self.new.tables.terms }) }
-        ensures rule { OnOk result (self.new.plan.rule ≡ self.old.plan.rule) }
         ensures lasts { lasting self.new.tables ≡ lasting self.old.tables }
     {
         equal_ids_for_equal_terms(&self.tables.basis.bank);

@@ -3,7 +3,12 @@ use Rattle.std.specs.Prelude.{◌≡◌, zero, suc, Bool, not, ◌&&◌}
 use Rattle.stt_core.specs.SimpleType.{SimpleType, base, arrow}
 use Rattle.stt_core.specs.Lambda.{falsity, implication, all, equality, Lambda, constant, app, eq}
 use Rattle.tableau_calculus.specs.Literals.{Literal}
+use Rattle.sat_base.specs.declared.literal.SatLit.{SatLit}
 use Rattle.search_spec.specs.Partners.{has_equal_sides}
+use Rattle.search_spec.specs.Processing.{with_rules}
+use Rattle.search_spec.specs.State.{State}
+use Rattle.prover_state.specs.declared.tables.Core.{Core}
+use Rattle.prover_state.specs.Internal.Advancing.{setting_in, state_in, the_literal}
 use Rattle.prover_search.specs.declared.shape.Shape.{Shape}
 use Rattle.prover_search.specs.declared.shape.Shape.TheVariants.{Falsity, Implication, FormulaEquation, FunctionEquation, BaseEquation, Quantified, Other}
 
@@ -30,3 +35,7 @@ pub record IsEquated (t : Lambda) : Type 0 where
 -- whether the literal denies that a term equals itself
 abbrev pub denies_itself : Literal → Bool
 denies_itself l = not l.positive && has_equal_sides l.atom
+
+-- the state with what is done for a literal
+abbrev pub with_rules_for : {W : Type 0} → Core W → SatLit → State
+with_rules_for core lit = let l = the_literal core.tables.basis lit in with_rules (setting_in core) l.positive l.atom (state_in core)

@@ -28,9 +28,9 @@ loop-i-preserved g c =
     let goal_state = with_terms mode a (map d c.args.ids.now) (the_state first.tables first.plan) in
     let basis = ap (λ (t : Tables). t.basis) inv.tables in
     record {
-      right = c.in_ok-add_term.ensures.right;
+      right = c.in_ok-add_term.ensures.stays.right;
       tables = c.in_ok-add_term.ensures.tables ∙ ap (λ (t : Tables). record t { terms = c.add_term.new.self.tables.terms }) inv.tables;
-      rule = c.in_ok-add_term.ensures.rule ∙ inv.rule;
+      rule = c.in_ok-add_term.ensures.stays.rule ∙ inv.rule;
       state =
           terms-more mode a d c.args.ids.now c.loop-i.i c.at.result c.at.ensures
           goal_state (the_state core.tables core.plan) (the_state c.add_term.new.self.tables c.add_term.new.self.plan) core.plan.rule.mode

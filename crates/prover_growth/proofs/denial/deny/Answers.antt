@@ -12,7 +12,7 @@ returns-clause-state g c = λ a f denies.
     let t = c.args.core.now.tables in
     let q = c.args.core.now.plan in
     let new = c.make_denial.new.basis in
-    state-widens t q new c.in_ok-instance.ensures.widens c.requires.right c.list_taker.new.takers
+    state-widens t q new c.in_ok-instance.ensures.widens c.requires.ready.right c.list_taker.new.takers
     ∙ ap (λ (rows : List Row). record (the_state t q) { rows = rows }) (c.in_ok-instance.ensures.rows a f denies)
 
 pub returns-clause-right : goal.returns-clause-right
@@ -24,9 +24,9 @@ returns-clause-right g c =
     let f = c.requires.denies.1.0 in
     let denies = c.requires.denies.1.1 in
     let rows = c.in_ok-instance.ensures.rows a f denies in
-    right-widens t q new c.in_ok-instance.ensures.widens c.requires.right c.list_taker.new.takers c.in_ok-instance.ensures.good
+    right-widens t q new c.in_ok-instance.ensures.widens c.requires.ready.right c.list_taker.new.takers c.in_ok-instance.ensures.good
     (λ n.
-    takers-listed t.takers c.list_taker.new.takers (rows_in t.basis) c.requires.right.takers (denied_row a f) c.args.output c.len-before.result c.len-now.result (c.requires.output a f denies)
+    takers-listed t.takers c.list_taker.new.takers (rows_in t.basis) c.requires.ready.right.takers (denied_row a f) c.args.output c.len-before.result c.len-now.result (c.requires.output a f denies)
     (c.len-before.ensures ∙ sym (rows-length t.basis))
     (c.len-now.ensures ∙ sym (rows-length new) ∙ ap length rows)
     c.in_ok-list_taker.ensures n

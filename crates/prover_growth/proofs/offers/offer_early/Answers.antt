@@ -57,10 +57,10 @@ loop-w-preserved g c =
     let rows_stay : rows_in core.tables.basis ≡ rows = rows-grown h core.tables.basis inv.basis c.requires.right.basis in
     let goal_state = with_terms mode a (witness_terms a 0 rows) (the_state first.tables first.plan) in
     record {
-      right = told.right;
+      right = told.stays.right;
       basis = basis-grows-on h core.tables.basis next.tables.basis inv.basis told.basis;
       tables = told.tables ∙ ap (λ (t : Tables). record t { basis = next.tables.basis; terms = next.tables.terms }) inv.tables;
-      rule = told.rule ∙ inv.rule;
+      rule = told.stays.rule ∙ inv.rule;
       lasts = told.lasts ∙ inv.lasts;
       state =
           early-more mode a rows w goal_state r at (the_state core.tables core.plan) (the_state next.tables next.plan) core.plan.rule.mode (ap (λ (d : Delays). d.mode) inv.rule)

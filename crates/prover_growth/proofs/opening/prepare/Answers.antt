@@ -31,7 +31,7 @@ returns-clause-state g c =
     let u = c.offer_early.new.core.tables in
     let p = c.offer_early.new.core.plan in
     let a = the_type c.args.ty.now in
-    let same : setting_by u p ≡ setting_by t q = setting-grown t u q p c.in_ok-offer_early.ensures.basis c.in_ok-offer_early.ensures.rule in
+    let same : setting_by u p ≡ setting_by t q = setting-grown t u q p c.in_ok-offer_early.ensures.basis c.in_ok-offer_early.ensures.stays.rule in
     c.in_ok-begin.ensures.state
     ∙ ap₂ (λ (x : Setting) (s : State). with_beginning x a s) same c.in_ok-offer_early.ensures.state
     ∙ prepared-now (setting_by t q) a (the_state t q) (sym c.is_prepared.ensures ∙ c.if-is_prepared.false)

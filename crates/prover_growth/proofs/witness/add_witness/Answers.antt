@@ -46,7 +46,7 @@ returns-then-len-before-clause-state g c = λ a f denies.
     let told = c.in_ok-instance.ensures in
     let i = c.in_ok-instance.instance in
     let d : SatLit → Literal = bank_literal t1.basis.bank.terms t1.basis.lits in
-    let on : d c.args.lit ≡ minus (every a f) = denies-on t.basis t1.basis told.widens c.requires.right.basis c.args.lit c.requires.number a f denies in
+    let on : d c.args.lit ≡ minus (every a f) = denies-on t.basis t1.basis told.widens c.requires.ready.right.basis c.args.lit c.requires.number a f denies in
     let added : the_state t2 q2 ≡ with_denial (setting_by t q) a f s (record s { rows = with_row s.rows r }) =
     denial-added (setting_by t q) a f s (the_state t2 q2) (the_state t1 q1) q1.rule.mode (map d i.principals) (map (map d) i.alternatives) (with_row s.rows r) c.in_ok-add_instance.ensures.state
     (ap (λ (p : Queue Planned Delays). p.rule.mode) told.plan) (ap (map d) told.principals ∙ ap (λ (l : Literal). l ∷ []) on) (told.alternatives a f denies) (told.state a f denies) in
@@ -67,13 +67,13 @@ returns-clause-state g c = λ a f denies.
     let told = c.in_ok-instance.ensures in
     let i = c.in_ok-instance.instance in
     let d : SatLit → Literal = bank_literal t1.basis.bank.terms t1.basis.lits in
-    let on : d c.args.lit ≡ minus (every a f) = denies-on t.basis t1.basis told.widens c.requires.right.basis c.args.lit c.requires.number a f denies in
+    let on : d c.args.lit ≡ minus (every a f) = denies-on t.basis t1.basis told.widens c.requires.ready.right.basis c.args.lit c.requires.number a f denies in
     let added : the_state t2 q2 ≡ with_denial (setting_by t q) a f s (record s { rows = with_row s.rows r }) =
     denial-added (setting_by t q) a f s (the_state t2 q2) (the_state t1 q1) q1.rule.mode (map d i.principals) (map (map d) i.alternatives) (with_row s.rows r) c.in_ok-add_instance.ensures.state
     (ap (λ (p : Queue Planned Delays). p.rule.mode) told.plan) (ap (map d) told.principals ∙ ap (λ (l : Literal). l ∷ []) on) (told.alternatives a f denies) (told.state a f denies) in
     let basis : t2.basis ≡ t1.basis = ap (λ (x : Tables). x.basis) c.in_ok-add_instance.ensures.tables in
     let size : length (with_row (rows_in t.basis) r) ≡ length t2.basis.witnesses = ap length (sym (told.rows a f denies)) ∙ rows-length t1.basis ∙ ap (λ (h : Basis). length h.witnesses) (sym basis) in
-    let rule : q2.rule ≡ q.rule = c.in_ok-add_instance.ensures.rule ∙ ap (λ (p : Queue Planned Delays). p.rule) told.plan in
+    let rule : q2.rule ≡ q.rule = c.in_ok-add_instance.ensures.stays.rule ∙ ap (λ (p : Queue Planned Delays). p.rule) told.plan in
     let more : length (with_row (rows_in t.basis) r) ≡ length (rows_in t.basis) → ⊥ = λ e. c.if-len-before.false (c.len.ensures ∙ sym size ∙ e ∙ rows-length t.basis ∙ sym c.len-before.ensures) in
     c.in_ok-grow_with.ensures.state
     ∙ ap (λ (x : Delays). with_commands x.mode (map (λ (p : Sketch). grow p (constant (witness c.len-before.result))) (filter (has_hole_of c.denied_target-output.result) (sketches_in t2))) (the_state t2 q2)) rule

@@ -1,16 +1,25 @@
 use Rattle.std.proofs.Common.{ap}
 use Rattle.prover_state.specs.declared.tables.Tables.{Tables}
-use Rattle.prover_search.proofs.DevelopLaws.{grows-wider, steps-same}
-use Rattle.prover_state.specs.Internal.Steps.{IsMadeInstance}
+use Rattle.prover_search.proofs.AdvanceLaws.{advances-grown, alone-advances}
+use Rattle.prover_state.proofs.SelectingLaws.{on-ok}
 use Rattle.prover_search.proofs.carry.carry_out.Goals as goal
 
-pub returns-in_ok-fill-in-Grow-clause-develops : goal.returns-in_ok-fill-in-Grow-clause-develops
-returns-in_ok-fill-in-Grow-clause-develops g c =
-    let t = c.args.core.now.tables in
-    let u = c.fill.new.core.tables in
-    let e = c.in_ok-fill-in-Grow.ensures.tables in
-    record {
-      basis = grows-wider t.basis u.basis (c.in_ok-fill-in-Grow.ensures.basis);
-      steps = steps-same (IsMadeInstance u.basis) t.steps u.steps (ap (λ (x : Tables). x.steps) e);
-      done = ap (λ (x : Tables). x.done) e;
-    }
+pub returns-in-Mate-clause-advances : goal.returns-in-Mate-clause-advances
+returns-in-Mate-clause-advances g c = on-ok c.mate.result (alone-advances c.args.core.now c.mate.new.core) c.mate.ensures.advances
+
+pub returns-in-Confront-clause-advances : goal.returns-in-Confront-clause-advances
+returns-in-Confront-clause-advances g c = on-ok c.confront.result (alone-advances c.args.core.now c.confront.new.core) c.confront.ensures.advances
+
+pub returns-in-Inst-clause-advances : goal.returns-in-Inst-clause-advances
+returns-in-Inst-clause-advances g c = on-ok c.instantiate.result (alone-advances c.args.core.now c.instantiate.new.core) c.instantiate.ensures.advances
+
+pub returns-in-Choose-clause-advances : goal.returns-in-Choose-clause-advances
+returns-in-Choose-clause-advances g c = on-ok c.choose.result (alone-advances c.args.core.now c.choose.new.core) c.choose.ensures.advances
+
+pub returns-in-Describe-clause-advances : goal.returns-in-Describe-clause-advances
+returns-in-Describe-clause-advances g c = on-ok c.describe.result (alone-advances c.args.core.now c.describe.new.core) c.describe.ensures.advances
+
+pub returns-in_ok-fill-in-Grow-clause-advances : goal.returns-in_ok-fill-in-Grow-clause-advances
+returns-in_ok-fill-in-Grow-clause-advances g c =
+    let e = c.in_ok-fill-in-Grow.ensures in
+    alone-advances c.args.core.now c.fill.new.core (advances-grown c.args.core.now c.fill.new.core e.stays e.basis (ap (λ (x : Tables). x.steps) e.tables) (ap (λ (x : Tables). x.done) e.tables))

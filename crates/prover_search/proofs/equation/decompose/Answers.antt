@@ -1,4 +1,4 @@
-use Rattle.std.proofs.Common.{suc, [], ◌∷◌, refl, sym, ap, ◌∙◌, subst}
+use Rattle.std.proofs.Common.{suc, [], ◌∷◌, sym, ap, ◌∙◌, subst}
 use Rattle.stt_core.specs.SimpleType.{base}
 use Rattle.stt_core.specs.Typing.{IsScope, type_of}
 use Rattle.tableau_calculus.specs.Literals.{Literal}
@@ -7,7 +7,7 @@ use Rattle.search_spec.specs.Instances.{with_instance}
 use Rattle.search_spec.specs.Spine.{head_of, arguments}
 use Rattle.term_bank.specs.Terms.{term_at}
 use Rattle.prover_state.specs.Internal.Standing.{scope_by, setting_by, the_state}
-use Rattle.prover_search.proofs.DevelopLaws.{develops-same}
+use Rattle.prover_search.proofs.AdvanceLaws.{advances-not}
 use Rattle.prover_search.proofs.RuleUses.{scope-is}
 use Rattle.prover_search.proofs.AloneUses.{dec-takes}
 use Rattle.prover_search.proofs.WorkLaws.{decomposed-not, decomposed-is}
@@ -20,13 +20,10 @@ returns-then-not-share_spine-clause-state g c = λ n e.
     decomposed-not (setting_by core.tables core.plan) (the_state core.tables core.plan) (base (suc n)) (term_at terms c.args.sides.left) (term_at terms c.args.sides.right)
     (sym c.share_spine.ensures ∙ c.if-not-share_spine.true)
 
-pub returns-then-not-share_spine-clause-develops : goal.returns-then-not-share_spine-clause-develops
-returns-then-not-share_spine-clause-develops g c = develops-same c.args.core.now.tables c.args.core.now.tables refl refl refl
-
 pub apply_alone-requires-clause-fits : goal.apply_alone-requires-clause-fits
 apply_alone-requires-clause-fits g c =
     let basis = c.args.core.now.tables.basis in
-    let good = c.requires.right.basis in (
+    let good = c.requires.ready.right.basis in (
       _,
       dec-takes basis c.args.lit good c.requires.number (subst IsScope (sym (scope-is basis good)) c.sig-declared.ensures.declared) c.requires.denies.0 (term_at basis.bank.terms c.args.sides.left) (term_at basis.bank.terms c.args.sides.right) c.requires.denies.1
           (sym c.share_spine.ensures ∙ c.if-not-share_spine.false),
@@ -36,7 +33,7 @@ pub returns-clause-state : goal.returns-clause-state
 returns-clause-state g c = λ n e.
     let core = c.args.core.now in
     let basis = core.tables.basis in
-    let good = c.requires.right.basis in
+    let good = c.requires.ready.right.basis in
     let x = term_at basis.bank.terms c.args.sides.left in
     let y = term_at basis.bank.terms c.args.sides.right in
     let s = the_state core.tables core.plan in
@@ -47,3 +44,6 @@ returns-clause-state g c = λ n e.
     c.in_ok-apply_alone.ensures.state as' (dec-takes basis c.args.lit good c.requires.number over n x y e both)
     ∙ ap (λ (k : Literal). with_instance core.plan.rule.mode (k ∷ []) as' s) e
     ∙ decomposed-is setting s (base (suc n)) x y both
+
+pub returns-then-not-share_spine-clause-advances : goal.returns-then-not-share_spine-clause-advances
+returns-then-not-share_spine-clause-advances g c = advances-not c.args.core.now c.requires.ready.right

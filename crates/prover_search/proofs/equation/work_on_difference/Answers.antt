@@ -1,4 +1,4 @@
-use Rattle.std.proofs.Common.{◌≡◌, ◌<◌, ◌-◌, ◌^◌, suc, false, length, sym, ap, ◌∙◌, subst}
+use Rattle.std.proofs.Common.{◌≡◌, ◌<◌, ◌-◌, ◌^◌, suc, false, length, sym, ap, subst}
 use Rattle.stt_core.specs.SimpleType.{base}
 use Rattle.stt_core.specs.Lambda.{eq}
 use Rattle.tableau_calculus.specs.Literals.{Literal, minus}
@@ -7,7 +7,7 @@ use Rattle.literal_map.specs.Atoms.{bank_literal}
 use Rattle.prover_state.specs.declared.tables.Basis.{Basis}
 use Rattle.prover_state.specs.declared.tables.Tables.{Tables}
 use Rattle.prover_state.specs.Internal.Names.{IsNumberIn, IsPlace}
-use Rattle.prover_search.proofs.DevelopLaws.{develops-same, develops-then}
+use Rattle.prover_search.proofs.AdvanceLaws.{advances-still, alone-then}
 use Rattle.prover_search.proofs.MadeStays.{number-wider}
 use Rattle.prover_search.proofs.ShapedLaws.{base-equation, base-equated, base-sides}
 use Rattle.prover_search.proofs.WorkLaws.{literal-is, difference-is, difference-equation}
@@ -25,14 +25,14 @@ decompose-requires-clause-number g c =
     let P : Basis → Type 0 = λ x. IsNumberIn x.lits c.args.lit in
     subst P (sym basis) c.requires.number
 
-pub decompose-requires-clause-few : goal.decompose-requires-clause-few
-decompose-requires-clause-few g c =
+pub decompose-requires-clause-ready : goal.decompose-requires-clause-ready
+decompose-requires-clause-ready g c =
     let core = c.args.core.now in
     let t = core.tables in
     let one = c.add_terms.new.core in
     let basis : one.tables.basis ≡ t.basis = ap (λ (x : Tables). x.basis) c.in_ok-add_terms.ensures.tables in
     let P : Basis → Type 0 = λ x. length x.witnesses < 2 ^ 32 - 1 in
-    subst P (sym basis) c.requires.few
+    record { right = c.in_ok-add_terms.ensures.stays.right; few = subst P (sym basis) c.requires.ready.few }
 
 pub decompose-requires-clause-left_place : goal.decompose-requires-clause-left_place
 decompose-requires-clause-left_place g c =
@@ -73,7 +73,7 @@ push_confrontations-requires-clause-number g c =
     let two = c.decompose.new.core in
     let basis : one.tables.basis ≡ t.basis = ap (λ (x : Tables). x.basis) c.in_ok-add_terms.ensures.tables in
     let P : Basis → Type 0 = λ x. IsNumberIn x.lits c.args.lit in
-    number-wider one.tables.basis two.tables.basis c.in_ok-add_terms.ensures.right.basis c.in_ok-decompose.ensures.develops.basis c.args.lit (subst P (sym basis) c.requires.number)
+    number-wider one.tables.basis two.tables.basis c.in_ok-add_terms.ensures.stays.right.basis c.in_ok-decompose.ensures.advances.develops.basis c.args.lit (subst P (sym basis) c.requires.number)
 
 pub push_confrontations-requires-clause-equation : goal.push_confrontations-requires-clause-equation
 push_confrontations-requires-clause-equation g c =
@@ -82,7 +82,7 @@ push_confrontations-requires-clause-equation g c =
     let one = c.add_terms.new.core in
     let two = c.decompose.new.core in
     let basis : one.tables.basis ≡ t.basis = ap (λ (x : Tables). x.basis) c.in_ok-add_terms.ensures.tables in
-    difference-equation t.basis one.tables.basis two.tables.basis c.args.lit c.requires.right.basis c.requires.number basis c.in_ok-decompose.ensures.develops.basis (base-equation (bank_literal t.basis.bank.terms t.basis.lits c.args.lit).atom c.args.n c.requires.shape)
+    difference-equation t.basis one.tables.basis two.tables.basis c.args.lit c.requires.ready.right.basis c.requires.number basis c.in_ok-decompose.ensures.advances.develops.basis (base-equation (bank_literal t.basis.bank.terms t.basis.lits c.args.lit).atom c.args.n c.requires.shape)
 
 pub returns-clause-state : goal.returns-clause-state
 returns-clause-state g c =
@@ -99,29 +99,19 @@ returns-clause-state g c =
     let y = term_at t.basis.bank.terms j in
     let k = base-sides l.atom c.args.n x y c.requires.shape c.sides_of-sides.ensures.equation in
     difference-is t one.tables two.tables three.tables core.plan one.plan two.plan three.plan c.args.lit
-    c.requires.right.basis c.requires.number basis c.in_ok-decompose.ensures.develops.basis c.in_ok-add_terms.ensures.rule c.in_ok-decompose.ensures.rule
+    c.requires.ready.right.basis c.requires.number basis c.in_ok-decompose.ensures.advances.develops.basis c.in_ok-add_terms.ensures.stays.rule c.in_ok-decompose.ensures.advances.rule
     c.args.n k.0 i j k.1 (literal-is l false (eq (base (suc k.0)) x y) c.requires.negative k.2) c.requires.differs
     c.in_ok-add_terms.ensures.state c.in_ok-decompose.ensures.state c.in_ok-push_confrontations.ensures.state
 
-pub returns-clause-develops : goal.returns-clause-develops
-returns-clause-develops g c =
+pub returns-clause-advances : goal.returns-clause-advances
+returns-clause-advances g c =
     let core = c.args.core.now in
-    let t = core.tables in
     let one = c.add_terms.new.core in
     let two = c.decompose.new.core in
-    let basis : one.tables.basis ≡ t.basis = ap (λ (x : Tables). x.basis) c.in_ok-add_terms.ensures.tables in
     let three = c.push_confrontations.new.self in
+    let made = c.in_ok-add_terms.ensures.tables in
     let last = c.push_confrontations.ensures.tables in
-    develops-then t one.tables three.tables c.in_ok-add_terms.ensures.right.basis
-    (develops-same t one.tables basis (ap (λ (x : Tables). x.steps) c.in_ok-add_terms.ensures.tables) (ap (λ (x : Tables). x.done) c.in_ok-add_terms.ensures.tables))
-    (develops-then one.tables two.tables three.tables c.in_ok-decompose.ensures.right.basis c.in_ok-decompose.ensures.develops
-    (develops-same two.tables three.tables (ap (λ (x : Tables). x.basis) last) (ap (λ (x : Tables). x.steps) last) (ap (λ (x : Tables). x.done) last)))
-
-pub returns-clause-witnesses : goal.returns-clause-witnesses
-returns-clause-witnesses g c =
-    let core = c.args.core.now in
-    let t = core.tables in
-    let one = c.add_terms.new.core in
-    let two = c.decompose.new.core in
-    let basis : one.tables.basis ≡ t.basis = ap (λ (x : Tables). x.basis) c.in_ok-add_terms.ensures.tables in
-    ap (λ (x : Tables). x.basis.witnesses) c.push_confrontations.ensures.tables ∙ c.in_ok-decompose.ensures.witnesses ∙ ap (λ (x : Basis). x.witnesses) basis
+    alone-then core one three
+    (advances-still core one c.in_ok-add_terms.ensures.stays (ap (λ (x : Tables). x.basis) made) (ap (λ (x : Tables). x.steps) made) (ap (λ (x : Tables). x.done) made))
+    (alone-then one two three c.in_ok-decompose.ensures.advances
+    (advances-still two three c.in_ok-push_confrontations.ensures.stays (ap (λ (x : Tables). x.basis) last) (ap (λ (x : Tables). x.steps) last) (ap (λ (x : Tables). x.done) last)))

@@ -10,7 +10,7 @@ use Rattle.prover_state.specs.declared.tables.Tables.{Tables}
 use Rattle.prover_state.specs.Internal.Pending.{equation_type}
 use Rattle.prover_state.specs.Internal.Standing.{setting_by, the_state}
 use Rattle.prover_search.specs.declared.shape.Shape.TheVariants.{BaseEquation}
-use Rattle.prover_search.proofs.DevelopLaws.{develops-same}
+use Rattle.prover_search.proofs.AdvanceLaws.{advances-still}
 use Rattle.prover_search.proofs.ShapedLaws.{shaped-as, base-equation}
 use Rattle.prover_search.proofs.WorkLaws.{literal-is, worked-as}
 use Rattle.prover_search.proofs.equation.work_on_terms.Goals as goal
@@ -34,9 +34,7 @@ returns-clause-state g c =
     worked-as (setting_by core.tables core.plan) s l (plus (eq (base (suc k.0)) k.1 k.2)) (the_state new.tables new.plan) e
     (c.in_ok-push_confrontations.ensures.state ∙ ap (λ (m : Literal). with_commands mode (confrontations (equation_type m.atom) m s.noted) s) e)
 
-pub returns-clause-develops : goal.returns-clause-develops
-returns-clause-develops g c =
-    let t = c.args.core.now.tables in
-    let u = c.push_confrontations.new.self.tables in
+pub returns-clause-advances : goal.returns-clause-advances
+returns-clause-advances g c =
     let same = c.push_confrontations.ensures.tables in
-    develops-same t u (ap (λ (x : Tables). x.basis) same) (ap (λ (x : Tables). x.steps) same) (ap (λ (x : Tables). x.done) same)
+    advances-still c.args.core.now c.push_confrontations.new.self c.in_ok-push_confrontations.ensures.stays (ap (λ (x : Tables). x.basis) same) (ap (λ (x : Tables). x.steps) same) (ap (λ (x : Tables). x.done) same)

@@ -5,7 +5,7 @@ use Rattle.tableau_calculus.specs.Literals.{Literal, plus, minus}
 use Rattle.literal_map.specs.Atoms.{bank_literal}
 use Rattle.prover_state.specs.Internal.Standing.{setting_by, the_state}
 use Rattle.prover_search.specs.declared.shape.Shape.TheVariants.{Falsity}
-use Rattle.prover_search.proofs.DevelopLaws.{develops-same}
+use Rattle.prover_search.proofs.AdvanceLaws.{advances-not}
 use Rattle.prover_search.proofs.ShapedLaws.{shaped-as}
 use Rattle.prover_search.proofs.AloneUses.{false-takes}
 use Rattle.prover_search.proofs.WorkLaws.{literal-is, worked-alone, worked-as}
@@ -20,10 +20,6 @@ returns-then-not-lit-clause-state g c =
     let setting = setting_by core.tables core.plan in
     let s = the_state core.tables core.plan in
     worked-as setting s l (minus (constant falsity)) s (literal-is l false (constant falsity) (not-true lit.positive c.if-not-lit.true) (shaped-as l.atom Falsity c.requires.shape)) refl
-
-pub returns-then-not-lit-clause-develops : goal.returns-then-not-lit-clause-develops
-returns-then-not-lit-clause-develops g c =
-    develops-same c.args.core.now.tables c.args.core.now.tables refl refl refl
 
 pub apply_alone-requires-clause-fits : goal.apply_alone-requires-clause-fits
 apply_alone-requires-clause-fits g c =
@@ -43,3 +39,6 @@ returns-clause-state g c =
     let s = the_state core.tables core.plan in
     let e = literal-is l true (constant falsity) (not-false lit.positive c.if-not-lit.false) (shaped-as l.atom Falsity c.requires.shape) in
     c.in_ok-apply_alone.ensures.state [] (false-takes basis lit e) ∙ worked-alone setting s l (plus (constant falsity)) [] e refl
+
+pub returns-then-not-lit-clause-advances : goal.returns-then-not-lit-clause-advances
+returns-then-not-lit-clause-advances g c = advances-not c.args.core.now c.requires.ready.right

@@ -1,4 +1,4 @@
-use Rattle.std.proofs.Common.{◌≡◌, ◌≤◌, suc, false, List, length, slice_get, sym, ap, subst, ◌∙◌}
+use Rattle.std.proofs.Common.{◌≡◌, false, List, length, slice_get, sym, ap, ◌∙◌}
 use Rattle.stt_core.specs.Lambda.{every}
 use Rattle.stt_core.proofs.ListLaws.{slice_get-end}
 use Rattle.tableau_calculus.specs.Literals.{Literal}
@@ -7,14 +7,23 @@ use Rattle.literal_map.specs.Atoms.{bank_literal}
 use Rattle.prover_growth.specs.Internal.Denials.{with_row}
 use Rattle.prover_growth.proofs.DenialLaws.{rows-length, row-new}
 use Rattle.prover_growth.proofs.WitnessedLaws.{came, came-not}
+use Rattle.prover_state.specs.declared.tables.Core.{Core}
 use Rattle.prover_state.specs.declared.tables.Tables.{Tables}
+use Rattle.prover_state.specs.Internal.Advancing.{StaysRight}
+use Rattle.prover_state.specs.Internal.Growing.{BasisWidens}
 use Rattle.prover_state.specs.Internal.Standing.{rows_in}
+use Rattle.prover_state.specs.Internal.Steps.{IsMadeInstance, StepsGrow}
+use Rattle.prover_search.specs.Internal.Developing.{Advances}
 use Rattle.prover_search.specs.declared.shape.Shape.TheVariants.{Quantified}
-use Rattle.prover_search.proofs.DevelopLaws.{develops-then}
+use Rattle.prover_search.proofs.AdvanceLaws.{advances-grown, advances-then}
 use Rattle.prover_search.proofs.MadeStays.{number-wider, literal-wider}
 use Rattle.prover_search.proofs.ShapedLaws.{shaped-as}
-use Rattle.prover_search.proofs.WorkLaws.{literal-is, widens-wider, develops-grown, develops-widened, denied-known, denied-new}
+use Rattle.prover_search.proofs.WorkLaws.{literal-is, widens-wider, develops-widened, denied-known, denied-new}
 use Rattle.prover_search.proofs.quantifier.work_on_denial.Goals as goal
+
+-- what a witness adds
+witnessed : {W : Type 0} (a b : Core W) → StaysRight a b → BasisWidens a.tables.basis b.tables.basis → StepsGrow (IsMadeInstance b.tables.basis) a.tables.steps b.tables.steps → b.tables.done ≡ a.tables.done → Advances a b
+witnessed a b stays widens steps done = record { right = stays.right; develops = develops-widened a.tables b.tables widens steps done; witnesses = widens.few; rule = stays.rule }
 
 pub add_witness-requires-clause-denies : goal.add_witness-requires-clause-denies
 add_witness-requires-clause-denies g c =
@@ -38,20 +47,11 @@ returns-then-len-known-clause-state g c =
     denied-known t one.tables one.tables one.tables core.plan one.plan one.plan one.plan lit k.0 k.1 e (c.in_ok-add_witness.ensures.state k.0 k.1 e)
     (came-not (rows_in t.basis) r (size ∙ sym c.len.ensures ∙ c.if-len-known.true ∙ c.len-known.ensures ∙ sym (rows-length t.basis)))
 
-pub returns-then-len-known-clause-develops : goal.returns-then-len-known-clause-develops
-returns-then-len-known-clause-develops g c =
-    let t = c.args.core.now.tables in
-    let u = c.add_witness.new.core.tables in
-    develops-widened t u c.in_ok-add_witness.ensures.basis c.in_ok-add_witness.ensures.steps (ap (λ (x : Tables). x.done) c.in_ok-add_witness.ensures.tables)
-
-pub returns-then-len-known-clause-witnesses : goal.returns-then-len-known-clause-witnesses
-returns-then-len-known-clause-witnesses g c = c.in_ok-add_witness.ensures.basis.few
-
 pub offer_new-requires-clause-number : goal.offer_new-requires-clause-number
 offer_new-requires-clause-number g c =
     let t = c.args.core.now.tables in
     let u = c.add_witness.new.core.tables in
-    number-wider t.basis u.basis c.requires.right.basis (widens-wider t.basis u.basis c.in_ok-add_witness.ensures.basis) c.args.lit c.requires.number
+    number-wider t.basis u.basis c.requires.ready.right.basis (widens-wider t.basis u.basis c.in_ok-add_witness.ensures.basis) c.args.lit c.requires.number
 
 pub offer_new-requires-clause-denies : goal.offer_new-requires-clause-denies
 offer_new-requires-clause-denies g c =
@@ -70,7 +70,7 @@ offer_new-requires-clause-denies g c =
       (
         k.1,
         (
-          literal-wider t.basis u.basis c.requires.right.basis (widens-wider t.basis u.basis c.in_ok-add_witness.ensures.basis) lit c.requires.number ∙ e,
+          literal-wider t.basis u.basis c.requires.ready.right.basis (widens-wider t.basis u.basis c.in_ok-add_witness.ensures.basis) lit c.requires.number ∙ e,
           ap (slice_get (rows_in u.basis)) place ∙ ap (λ (rs : List Row). slice_get rs (length (rows_in t.basis))) (rows ∙ row-new (rows_in t.basis) r new) ∙ slice_get-end (rows_in t.basis) r,
         ),
       ),
@@ -89,22 +89,17 @@ returns-clause-state g c =
     let r : Row = record { type = k.0; predicate = k.1 } in
     let size : length (with_row (rows_in t.basis) r) ≡ length one.tables.basis.witnesses = ap length (sym (c.in_ok-add_witness.ensures.rows k.0 k.1 e)) ∙ rows-length one.tables.basis in
     let new = came (rows_in t.basis) r (λ f. c.if-len-known.false (c.len.ensures ∙ sym size ∙ f ∙ rows-length t.basis ∙ sym c.len-known.ensures)) in
-    let later = literal-wider t.basis one.tables.basis c.requires.right.basis (widens-wider t.basis one.tables.basis c.in_ok-add_witness.ensures.basis) lit c.requires.number ∙ e in
-    denied-new t one.tables two.tables two.tables core.plan one.plan two.plan two.plan lit k.0 k.1 e c.in_ok-add_witness.ensures.rule c.len-known.result (c.len-known.ensures ∙ sym (rows-length t.basis))
+    let later = literal-wider t.basis one.tables.basis c.requires.ready.right.basis (widens-wider t.basis one.tables.basis c.in_ok-add_witness.ensures.basis) lit c.requires.number ∙ e in
+    denied-new t one.tables two.tables two.tables core.plan one.plan two.plan two.plan lit k.0 k.1 e c.in_ok-add_witness.ensures.stays.rule c.len-known.result (c.len-known.ensures ∙ sym (rows-length t.basis))
     (c.in_ok-add_witness.ensures.state k.0 k.1 e) new (c.in_ok-offer_new.ensures.state k.0 k.1 later)
 
-pub returns-clause-develops : goal.returns-clause-develops
-returns-clause-develops g c =
-    let t = c.args.core.now.tables in
-    let u = c.add_witness.new.core.tables in
-    let v = c.offer_new.new.core.tables in
-    let made = c.in_ok-offer_new.ensures.tables in
-    develops-then t u v c.in_ok-add_witness.ensures.right.basis
-    (develops-widened t u c.in_ok-add_witness.ensures.basis c.in_ok-add_witness.ensures.steps (ap (λ (x : Tables). x.done) c.in_ok-add_witness.ensures.tables))
-    (develops-grown u v c.in_ok-offer_new.ensures.basis (ap (λ (x : Tables). x.steps) made) (ap (λ (x : Tables). x.done) made))
+pub returns-then-len-known-clause-advances : goal.returns-then-len-known-clause-advances
+returns-then-len-known-clause-advances g c =
+    witnessed c.args.core.now c.add_witness.new.core c.in_ok-add_witness.ensures.stays c.in_ok-add_witness.ensures.basis c.in_ok-add_witness.ensures.steps (ap (λ (x : Tables). x.done) c.in_ok-add_witness.ensures.tables)
 
-pub returns-clause-witnesses : goal.returns-clause-witnesses
-returns-clause-witnesses g c =
-    let t = c.args.core.now.tables in
-    let L : List _ → Type 0 = λ ws. length ws ≤ suc (length t.basis.witnesses) in
-    subst L (sym c.in_ok-offer_new.ensures.basis.witnesses) c.in_ok-add_witness.ensures.basis.few
+pub returns-clause-advances : goal.returns-clause-advances
+returns-clause-advances g c =
+    let made = c.in_ok-offer_new.ensures.tables in
+    advances-then c.args.core.now c.add_witness.new.core c.offer_new.new.core
+    (witnessed c.args.core.now c.add_witness.new.core c.in_ok-add_witness.ensures.stays c.in_ok-add_witness.ensures.basis c.in_ok-add_witness.ensures.steps (ap (λ (x : Tables). x.done) c.in_ok-add_witness.ensures.tables))
+    (advances-grown c.add_witness.new.core c.offer_new.new.core c.in_ok-offer_new.ensures.stays c.in_ok-offer_new.ensures.basis (ap (λ (x : Tables). x.steps) made) (ap (λ (x : Tables). x.done) made))

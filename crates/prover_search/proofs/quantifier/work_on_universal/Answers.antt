@@ -12,10 +12,11 @@ use Rattle.prover_state.specs.Internal.Pending.{range_of}
 use Rattle.prover_state.specs.Internal.Standing.{scope_by, setting_by, the_state}
 use Rattle.prover_search.specs.declared.shape.Shape.TheVariants.{Quantified}
 use Rattle.prover_search.proofs.AloneUses.{atom-canonical}
-use Rattle.prover_search.proofs.DevelopLaws.{grows-wider, develops-same, develops-then}
+use Rattle.prover_search.proofs.AdvanceLaws.{advances-still, advances-grown, alone-then}
+use Rattle.prover_search.proofs.DevelopLaws.{grows-wider}
 use Rattle.prover_search.proofs.MadeStays.{number-wider, literal-wider}
 use Rattle.prover_search.proofs.ShapedLaws.{shaped-as}
-use Rattle.prover_search.proofs.WorkLaws.{literal-is, develops-grown, universal-is}
+use Rattle.prover_search.proofs.WorkLaws.{literal-is, universal-is}
 use Rattle.prover_search.proofs.quantifier.work_on_universal.Goals as goal
 
 pub prepare-requires-clause-declared : goal.prepare-requires-clause-declared
@@ -61,26 +62,18 @@ returns-clause-state g c =
     let one = c.prepare.new.core in
     let two = c.push_instances.new.self in
     let a : the_type c.in_ok-ty.ty ≡ k.0 = c.in_ok-ty.ensures ∙ ap range_of k.2 in
-    universal-is t one.tables two.tables two.tables core.plan one.plan two.plan two.plan lit c.requires.right.basis c.requires.number wider c.in_ok-prepare.ensures.rule k.0 k.1
+    universal-is t one.tables two.tables two.tables core.plan one.plan two.plan two.plan lit c.requires.right.basis c.requires.number wider c.in_ok-prepare.ensures.stays.rule k.0 k.1
     (literal-is l true (every k.0 k.1) c.requires.positive k.2)
     (c.in_ok-prepare.ensures.state ∙ ap (λ (x : SimpleType). with_preparation (setting_by t core.plan) x (the_state t core.plan)) a)
     c.in_ok-push_instances.ensures.state
 
-pub returns-clause-develops : goal.returns-clause-develops
-returns-clause-develops g c =
+pub returns-clause-advances : goal.returns-clause-advances
+returns-clause-advances g c =
     let core = c.args.core.now in
-    let t = core.tables in
-    let u = c.prepare.new.core.tables in
-    let lit = c.args.lit in
-    let l : Literal = bank_literal t.basis.bank.terms t.basis.lits lit in
-    let k = shaped-as l.atom Quantified c.requires.shape in
-    let wider = grows-wider t.basis u.basis c.in_ok-prepare.ensures.basis in
-    let v = c.push_instances.new.self.tables in
+    let one = c.prepare.new.core in
+    let two = c.push_instances.new.self in
     let made = c.in_ok-prepare.ensures.tables in
     let same = c.push_instances.ensures.tables in
-    develops-then t u v c.in_ok-prepare.ensures.right.basis
-    (develops-grown t u c.in_ok-prepare.ensures.basis (ap (λ (x : Tables). x.steps) made) (ap (λ (x : Tables). x.done) made))
-    (develops-same u v (ap (λ (x : Tables). x.basis) same) (ap (λ (x : Tables). x.steps) same) (ap (λ (x : Tables). x.done) same))
-
-pub returns-clause-witnesses : goal.returns-clause-witnesses
-returns-clause-witnesses g c = ap (λ (x : Tables). x.basis.witnesses) c.push_instances.ensures.tables ∙ c.in_ok-prepare.ensures.basis.witnesses
+    alone-then core one two
+    (advances-grown core one c.in_ok-prepare.ensures.stays c.in_ok-prepare.ensures.basis (ap (λ (x : Tables). x.steps) made) (ap (λ (x : Tables). x.done) made))
+    (advances-still one two c.in_ok-push_instances.ensures.stays (ap (λ (x : Tables). x.basis) same) (ap (λ (x : Tables). x.steps) same) (ap (λ (x : Tables). x.done) same))

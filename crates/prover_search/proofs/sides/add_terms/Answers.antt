@@ -21,7 +21,7 @@ returns-clause-state g c =
     let one = c.add_term.new.self in
     let b = the_type c.args.ty.now in
     c.in_ok-add_term-2.ensures.state
-    ∙ ap₂ (λ (m : Mode) (y : Lambda). with_term m b y (the_state one.tables one.plan)) (mode-same core.tables one.tables core.plan one.plan c.in_ok-add_term.ensures.rule)
+    ∙ ap₂ (λ (m : Mode) (y : Lambda). with_term m b y (the_state one.tables one.plan)) (mode-same core.tables one.tables core.plan one.plan c.in_ok-add_term.ensures.stays.rule)
     (ap (λ (x : Tables). term_at x.basis.bank.terms c.args.sides.right) c.in_ok-add_term.ensures.tables)
     ∙ ap (with_term core.plan.rule.mode b (term_at core.tables.basis.bank.terms c.args.sides.right)) c.in_ok-add_term.ensures.state
 

@@ -8,6 +8,7 @@ use Rattle.prover_state.specs.Internal.Standing.{setting_by, the_state}
 use Rattle.prover_search.proofs.ShapedLaws.{equal-sides}
 use Rattle.prover_search.proofs.AloneUses.{refl-takes}
 use Rattle.prover_search.proofs.WorkLaws.{literal-is, worked-alone, worked-itself}
+use Rattle.prover_search.proofs.AdvanceLaws.{alone-advances}
 use Rattle.prover_search.proofs.work.work.Goals as goal
 
 pub apply_alone-requires-clause-fits : goal.apply_alone-requires-clause-fits
@@ -32,3 +33,6 @@ returns-then-denies_itself-clause-state g c =
     let k = equal-sides l.atom p.1 in
     let e = literal-is l false (eq k.0 k.1 k.1) (not-true lit.positive p.0) k.2 in
     c.in_ok-apply_alone.ensures.state [] (refl-takes basis lit k.0 k.1 e) ∙ worked-alone setting s l (minus (eq k.0 k.1 k.1)) [] e (worked-itself setting s k.0 k.1 (same_term-refl k.1))
+
+pub returns-then-denies_itself-clause-advances : goal.returns-then-denies_itself-clause-advances
+returns-then-denies_itself-clause-advances g c = alone-advances c.args.core.now c.apply_alone.new.core c.in_ok-apply_alone.ensures.advances

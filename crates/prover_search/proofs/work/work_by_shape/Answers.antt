@@ -1,5 +1,7 @@
 use Rattle.std.proofs.Common.{sym, ap, ◌∙◌}
 use Rattle.prover_search.specs.Internal.Working.{shape_of}
+use Rattle.prover_search.proofs.AdvanceLaws.{alone-advances}
+use Rattle.prover_state.proofs.SelectingLaws.{on-ok}
 use Rattle.prover_search.proofs.work.work_by_shape.Goals as goal
 
 pub work_on_falsity-requires-clause-shape : goal.work_on_falsity-requires-clause-shape
@@ -22,3 +24,21 @@ work_on_quantified-requires-clause-shape g c = ap shape_of (sym c.atom_of-atom.e
 
 pub work_on_other-requires-clause-shape : goal.work_on_other-requires-clause-shape
 work_on_other-requires-clause-shape g c = ap shape_of (sym c.atom_of-atom.ensures.atom) ∙ sym c.shape_of.ensures ∙ c.in-Other.is
+
+pub returns-in-Falsity-clause-advances : goal.returns-in-Falsity-clause-advances
+returns-in-Falsity-clause-advances g c = on-ok c.work_on_falsity.result (alone-advances c.args.core.now c.work_on_falsity.new.core) c.work_on_falsity.ensures.advances
+
+pub returns-in-Implication-clause-advances : goal.returns-in-Implication-clause-advances
+returns-in-Implication-clause-advances g c = on-ok c.work_on_implication.result (alone-advances c.args.core.now c.work_on_implication.new.core) c.work_on_implication.ensures.advances
+
+pub returns-in-FormulaEquation-clause-advances : goal.returns-in-FormulaEquation-clause-advances
+returns-in-FormulaEquation-clause-advances g c = on-ok c.work_on_formulas.result (alone-advances c.args.core.now c.work_on_formulas.new.core) c.work_on_formulas.ensures.advances
+
+pub returns-in-FunctionEquation-clause-advances : goal.returns-in-FunctionEquation-clause-advances
+returns-in-FunctionEquation-clause-advances g c = on-ok c.work_on_functions.result (alone-advances c.args.core.now c.work_on_functions.new.core) c.work_on_functions.ensures.advances
+
+pub returns-in-BaseEquation-clause-advances : goal.returns-in-BaseEquation-clause-advances
+returns-in-BaseEquation-clause-advances g c = on-ok c.work_on_terms.result (alone-advances c.args.core.now c.work_on_terms.new.core) c.work_on_terms.ensures.advances
+
+pub returns-in-Other-clause-advances : goal.returns-in-Other-clause-advances
+returns-in-Other-clause-advances g c = on-ok c.work_on_other.result (alone-advances c.args.core.now c.work_on_other.new.core) c.work_on_other.ensures.advances

@@ -1,11 +1,11 @@
-use Rattle.std.proofs.Common.{refl, sym, ap, ◌∙◌}
+use Rattle.std.proofs.Common.{sym, ap, ◌∙◌}
 use Rattle.tableau_calculus.specs.Literals.{Literal}
 use Rattle.literal_map.specs.Atoms.{bank_literal}
 use Rattle.prover_state.specs.Internal.Standing.{setting_by, the_state}
 use Rattle.search_spec.specs.Spine.{is_spine}
 use Rattle.prover_state.specs.declared.tables.Tables.{Tables}
 use Rattle.prover_search.specs.declared.shape.Shape.TheVariants.{Other}
-use Rattle.prover_search.proofs.DevelopLaws.{develops-same}
+use Rattle.prover_search.proofs.AdvanceLaws.{advances-not, advances-still}
 use Rattle.prover_search.proofs.ShapedLaws.{shaped-as}
 use Rattle.prover_search.proofs.WorkLaws.{mated-not, mated-is, worked-other}
 use Rattle.prover_search.proofs.work.work_on_other.Goals as goal
@@ -20,10 +20,6 @@ returns-then-not-is_spine-clause-state g c =
     let s = the_state core.tables core.plan in
     mated-not setting s l (sym (c.is_spine.ensures ∙ ap is_spine c.atom_of-atom.ensures.atom) ∙ c.if-not-is_spine.true)
     ∙ worked-other setting s l (shaped-as l.atom Other c.requires.shape)
-
-pub returns-then-not-is_spine-clause-develops : goal.returns-then-not-is_spine-clause-develops
-returns-then-not-is_spine-clause-develops g c =
-    develops-same c.args.core.now.tables c.args.core.now.tables refl refl refl
 
 pub push_matings-requires-clause-spine : goal.push_matings-requires-clause-spine
 push_matings-requires-clause-spine g c =
@@ -41,9 +37,10 @@ returns-clause-state g c =
     ∙ mated-is setting s l (sym (c.is_spine.ensures ∙ ap is_spine c.atom_of-atom.ensures.atom) ∙ c.if-not-is_spine.false)
     ∙ worked-other setting s l (shaped-as l.atom Other c.requires.shape)
 
-pub returns-clause-develops : goal.returns-clause-develops
-returns-clause-develops g c =
-    let t = c.args.core.now.tables in
-    let u = c.push_matings.new.self.tables in
+pub returns-then-not-is_spine-clause-advances : goal.returns-then-not-is_spine-clause-advances
+returns-then-not-is_spine-clause-advances g c = advances-not c.args.core.now c.requires.right
+
+pub returns-clause-advances : goal.returns-clause-advances
+returns-clause-advances g c =
     let same = c.push_matings.ensures.tables in
-    develops-same t u (ap (λ (x : Tables). x.basis) same) (ap (λ (x : Tables). x.steps) same) (ap (λ (x : Tables). x.done) same)
+    advances-still c.args.core.now c.push_matings.new.self c.in_ok-push_matings.ensures.stays (ap (λ (x : Tables). x.basis) same) (ap (λ (x : Tables). x.steps) same) (ap (λ (x : Tables). x.done) same)

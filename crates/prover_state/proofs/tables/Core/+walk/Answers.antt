@@ -33,12 +33,12 @@ loop-i-init g t c =
     let s = the_state self.tables self.plan in
     let e = c.in_ok-select_head.ensures in
     record {
-      right = e.right;
+      right = e.stays.right;
       tables =
           e.tables
           ∙ ap (λ (ids : List ℕ). record self.tables { chosen = c.select_head.new.self.tables.chosen; described = c.select_head.new.self.tables.described; walked = ids })
           (sym (ap (λ (x : Tables). x.walked) e.tables));
-      rule = e.rule;
+      rule = e.stays.rule;
       state =
           ap (with_selections mode (all_in (term_parts u))) e.state
           ∙ sym (selections-append mode (head_selection u) (all_in (term_parts u)) s)
@@ -60,9 +60,9 @@ loop-i-preserved g t c =
     let v = term_at terms c.part_of-part.result in
     let rest = all_in (drop (c.loop-i.i + 1) (term_parts u)) in
     record {
-      right = e.right;
+      right = e.stays.right;
       tables = e.tables ∙ ap (λ (x : Tables). record x { chosen = c.walk.new.self.tables.chosen; described = c.walk.new.self.tables.described; walked = c.walk.new.self.tables.walked }) inv.tables;
-      rule = e.rule ∙ inv.rule;
+      rule = e.stays.rule ∙ inv.rule;
       state =
           ap (with_selections mode rest) (e.state ∙ ap₂ (λ (m : Mode) (ts : List Lambda). with_selections m (selections_in (term_at ts c.part_of-part.result)) now) (ap (λ r. r.mode) inv.rule) same)
           ∙ sym (selections-append mode (selections_in v) rest now)
@@ -81,8 +81,8 @@ returns-clause-state g t c =
     let n = c.count_parts-i-end.ensures ∙ ap (λ (x : Tables). length (term_parts (term_at x.basis.bank.terms c.args.id))) c.in_ok-select_head.ensures.tables in
     sym (ap (λ us. with_selections mode (all_in us) now) (drop_of_length-le (term_parts u) (omega (arith, c.loop-i-test.false, n)))) ∙ c.loop-i.invariant.state
 
-pub returns-clause-right : goal.returns-clause-right
-returns-clause-right g t c =
+pub returns-clause-stays : goal.returns-clause-stays
+returns-clause-stays g t c =
     let self = c.args.self.now in
     let terms = self.tables.basis.bank.terms in
     let u = term_at terms c.args.id in
@@ -93,10 +93,14 @@ returns-clause-right g t c =
     let n = c.count_parts-i-end.ensures ∙ ap (λ (x : Tables). length (term_parts (term_at x.basis.bank.terms c.args.id))) c.in_ok-select_head.ensures.tables in
     let done : now ≡ with_selections mode (selections_in u) s = sym (ap (λ us. with_selections mode (all_in us) now) (drop_of_length-le (term_parts u) (omega (arith, c.loop-i-test.false, n)))) ∙ inv.state in
     let same : terms ≡ c.loop-i.self.tables.basis.bank.terms = sym (ap (λ (x : Tables). x.basis.bank.terms) inv.tables) in
-    right-walked c.loop-i.self.tables c.loop-i.self.plan inv.right c.insert.new.self c.args.id c.in_ok-insert.ensures.list
-    (subst (λ (ts : List Lambda). IsPlace ts c.args.id) same c.requires.place)
-    (subst (λ (ts : List Lambda). Each (IsTakenSelection now.chosen now.described) (selections_in (term_at ts c.args.id))) same
-    (subst (λ (x : State). Each (IsTakenSelection x.chosen x.described) (selections_in u)) (sym done) (all-taken mode (selections_in u) s)))
+    record {
+      right =
+          right-walked c.loop-i.self.tables c.loop-i.self.plan inv.right c.insert.new.self c.args.id c.in_ok-insert.ensures.list
+          (subst (λ (ts : List Lambda). IsPlace ts c.args.id) same c.requires.place)
+          (subst (λ (ts : List Lambda). Each (IsTakenSelection now.chosen now.described) (selections_in (term_at ts c.args.id))) same
+          (subst (λ (x : State). Each (IsTakenSelection x.chosen x.described) (selections_in u)) (sym done) (all-taken mode (selections_in u) s)));
+      rule = inv.rule;
+    }
 
 pub returns-clause-tables : goal.returns-clause-tables
 returns-clause-tables g t c = ap (λ (x : Tables). record x { walked = c.insert.new.self }) c.loop-i.invariant.tables

@@ -30,15 +30,21 @@ returns-then-not-branch-clause-state g c =
     was-there self.tables self.plan c.requires.right a c.args.id c.requires.place c.equal_ids_for_equal_terms.ensures self.plan.rule.mode c.add_term.new.self c.in_ok-add_term.ensures.ok
     (was_there (list_any (nat_eq c.args.id) (ids_of a self.tables.terms)) (sym c.in_ok-add_term.ensures.fresh ∙ c.if-not-branch.true))
 
-pub returns-then-not-branch-clause-right : goal.returns-then-not-branch-clause-right
-returns-then-not-branch-clause-right g c =
+pub returns-then-not-branch-clause-stays : goal.returns-then-not-branch-clause-stays
+returns-then-not-branch-clause-stays g c =
     let self = c.args.self.now in
-    right-term self.tables self.plan c.requires.right (the_type c.args.ty.now) c.args.id c.requires.place c.equal_ids_for_equal_terms.ensures c.add_term.new.self c.in_ok-add_term.ensures.ok
+    record {
+      right = right-term self.tables self.plan c.requires.right (the_type c.args.ty.now) c.args.id c.requires.place c.equal_ids_for_equal_terms.ensures c.add_term.new.self c.in_ok-add_term.ensures.ok;
+      rule = refl;
+    }
 
-pub returns-then-count-eq0-clause-right : goal.returns-then-count-eq0-clause-right
-returns-then-count-eq0-clause-right g c =
+pub returns-then-count-eq0-clause-stays : goal.returns-then-count-eq0-clause-stays
+returns-then-count-eq0-clause-stays g c =
     let self = c.args.self.now in
-    right-term self.tables self.plan c.requires.right (the_type c.args.ty.now) c.args.id c.requires.place c.equal_ids_for_equal_terms.ensures c.add_term.new.self c.in_ok-add_term.ensures.ok
+    record {
+      right = right-term self.tables self.plan c.requires.right (the_type c.args.ty.now) c.args.id c.requires.place c.equal_ids_for_equal_terms.ensures c.add_term.new.self c.in_ok-add_term.ensures.ok;
+      rule = refl;
+    }
 
 pub returns-then-count-eq0-clause-state : goal.returns-then-count-eq0-clause-state
 returns-then-count-eq0-clause-state g c =

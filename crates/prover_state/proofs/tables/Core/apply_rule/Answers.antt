@@ -19,7 +19,7 @@ use Rattle.prover_state.proofs.tables.Core.apply_rule.Goals as goal
 pub add_instance-requires-clause-right : goal.add_instance-requires-clause-right
 add_instance-requires-clause-right g c =
     let self = c.args.self.now in
-    right-stays self.tables self.plan c.make_instance.new.self c.in_ok-instance.ensures.grows c.requires.right c.in_ok-instance.ensures.good
+    right-stays self.tables self.plan c.make_instance.new.self c.in_ok-instance.ensures.grows c.requires.ready.right c.in_ok-instance.ensures.good
 
 pub add_instance-requires-clause-principals : goal.add_instance-requires-clause-principals
 add_instance-requires-clause-principals g c =
@@ -41,10 +41,10 @@ returns-clause-state g c = λ alternatives h.
     let made = map (map d) c.in_ok-instance.instance.alternatives in
     c.in_ok-add_instance.ensures.state
     ∙ ap (λ (ps : List SatLit). with_instance mode (map d ps) made (the_state t self.plan)) c.in_ok-instance.ensures.principals
-    ∙ ap (λ (ps : List Literal). with_instance mode ps made (the_state t self.plan)) (principals_same old new grows c.requires.right.basis c.args.by c.requires.principals c.requires.parts)
+    ∙ ap (λ (ps : List Literal). with_instance mode ps made (the_state t self.plan)) (principals_same old new grows c.requires.ready.right.basis c.args.by c.requires.principals c.requires.parts)
     ∙ ap (λ (as' : List (List Literal)). with_instance mode (map (bank_literal old.bank.terms old.lits) (principals_of c.args.by)) as' (the_state t self.plan))
-    (same-alternatives old new grows c.requires.right.basis c.args.by c.requires.principals c.requires.parts alternatives made h c.in_ok-instance.ensures.instance)
-    ∙ ap (λ (s : State). with_instance mode (map (bank_literal old.bank.terms old.lits) (principals_of c.args.by)) alternatives s) (state-stays self.tables self.plan new grows c.requires.right)
+    (same-alternatives old new grows c.requires.ready.right.basis c.args.by c.requires.principals c.requires.parts alternatives made h c.in_ok-instance.ensures.instance)
+    ∙ ap (λ (s : State). with_instance mode (map (bank_literal old.bank.terms old.lits) (principals_of c.args.by)) alternatives s) (state-stays self.tables self.plan new grows c.requires.ready.right)
 
 pub returns-clause-steps : goal.returns-clause-steps
 returns-clause-steps g c =

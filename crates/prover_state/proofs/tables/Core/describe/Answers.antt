@@ -17,10 +17,13 @@ returns-then-not-branch-clause-state g c =
     described-before self.tables self.plan c.equal_ids_for_equal_terms.ensures c.requires.right self.plan.rule.mode c.args.predicate c.requires.place c.insert.new.self c.in_ok-insert.ensures.list
     (was_there (list_any (nat_eq c.args.predicate) self.tables.described) (sym c.in_ok-insert.ensures.new ∙ c.if-not-branch.true))
 
-pub returns-then-not-branch-clause-right : goal.returns-then-not-branch-clause-right
-returns-then-not-branch-clause-right g c =
+pub returns-then-not-branch-clause-stays : goal.returns-then-not-branch-clause-stays
+returns-then-not-branch-clause-stays g c =
     let self = c.args.self.now in
-    right-described self.tables self.plan c.equal_ids_for_equal_terms.ensures c.requires.right self.plan.rule.mode c.args.predicate c.requires.place c.insert.new.self c.in_ok-insert.ensures.list
+    record {
+      right = right-described self.tables self.plan c.equal_ids_for_equal_terms.ensures c.requires.right self.plan.rule.mode c.args.predicate c.requires.place c.insert.new.self c.in_ok-insert.ensures.list;
+      rule = refl;
+    }
 
 pub push_alone-requires-clause-right : goal.push_alone-requires-clause-right
 push_alone-requires-clause-right g c =

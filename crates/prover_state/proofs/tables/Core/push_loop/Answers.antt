@@ -13,10 +13,13 @@ returns-clause-state g c =
     let now : c.from.result ≡ self.tables.moment + c.args.extra = c.from.ensures ∙ c.in_ok-now.ensures in
     pushed-loop self.tables self.plan c.push.new.self p c.requires.entry c.args.extra c.requires.even (subst A now c.in_ok-push.ensures.ok)
 
-pub returns-clause-right : goal.returns-clause-right
-returns-clause-right g c =
+pub returns-clause-stays : goal.returns-clause-stays
+returns-clause-stays g c =
     let self = c.args.self.now in
     let p = c.args.planned in
     let A : ℕ → Type 0 = λ n. AddsEntry self.plan c.push.new.self (suc (span p)) (n + delay_by self.plan.rule.mode p.first) p in
     let now : c.from.result ≡ self.tables.moment + c.args.extra = c.from.ensures ∙ c.in_ok-now.ensures in
-    right-pushed self.tables self.plan c.push.new.self p c.requires.entry c.args.extra c.requires.even (subst A now c.in_ok-push.ensures.ok) c.requires.right
+    record {
+      right = right-pushed self.tables self.plan c.push.new.self p c.requires.entry c.args.extra c.requires.even (subst A now c.in_ok-push.ensures.ok) c.requires.right;
+      rule = c.in_ok-push.ensures.ok.rule;
+    }

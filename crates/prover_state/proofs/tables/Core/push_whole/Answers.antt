@@ -57,9 +57,9 @@ loop-place-preserved g c =
     let s' = the_state c.go_on.new.self.tables c.go_on.new.self.plan in
     let modes = ap (λ (r : Delays). r.mode) inv.rule in
     record {
-      right = done.right;
+      right = done.stays.right;
       tables = c.go_on.ensures.tables ∙ inv.tables;
-      rule = done.rule ∙ inv.rule;
+      rule = done.stays.rule ∙ inv.rule;
       piece =
           subst (λ (m : Mode). IsPiece m first.tables c.args.over c.args.first next (c.loop-place.place + 1)) modes
           (subst (λ (t : Tables). IsPiece self.plan.rule.mode t c.args.over c.args.first next (c.loop-place.place + 1)) inv.tables done.piece);

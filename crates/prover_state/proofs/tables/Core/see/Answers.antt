@@ -18,11 +18,15 @@ returns-then-not-branch-clause-state g c =
     seen_before self.tables self.plan c.equal_ids_for_equal_terms.ensures c.atoms_differ.ensures c.requires.right self.plan.rule.mode c.args.lit c.requires.number
     c.insert.new.self c.in_ok-insert.ensures.list (was_there (has numbers self.tables.seen c.args.lit) (sym c.in_ok-insert.ensures.new ∙ c.if-not-branch.true))
 
-pub returns-then-not-branch-clause-right : goal.returns-then-not-branch-clause-right
-returns-then-not-branch-clause-right g c =
+pub returns-then-not-branch-clause-stays : goal.returns-then-not-branch-clause-stays
+returns-then-not-branch-clause-stays g c =
     let self = c.args.self.now in
-    right-seen self.tables self.plan c.equal_ids_for_equal_terms.ensures c.atoms_differ.ensures c.requires.right self.plan.rule.mode c.args.lit c.requires.number
-    c.insert.new.self c.in_ok-insert.ensures.list
+    record {
+      right =
+          right-seen self.tables self.plan c.equal_ids_for_equal_terms.ensures c.atoms_differ.ensures c.requires.right self.plan.rule.mode c.args.lit c.requires.number
+          c.insert.new.self c.in_ok-insert.ensures.list;
+      rule = refl;
+    }
 
 pub returns-clause-state : goal.returns-clause-state
 returns-clause-state g c =

@@ -16,9 +16,9 @@ loop-i-preserved g c =
     let goal_state = with_literals first.plan.rule.mode (map (bank_literal first.tables.basis.bank.terms first.tables.basis.lits) c.args.lits.now) (the_state first.tables first.plan) in
     let basis = ap (λ (t : Tables). t.basis) inv.tables in
     record {
-      right = c.in_ok-see.ensures.right;
+      right = c.in_ok-see.ensures.stays.right;
       tables = c.in_ok-see.ensures.tables ∙ ap (λ (t : Tables). record t { seen = c.see.new.self.tables.seen }) inv.tables;
-      rule = c.in_ok-see.ensures.rule ∙ inv.rule;
+      rule = c.in_ok-see.ensures.stays.rule ∙ inv.rule;
       state =
           seen-more first.plan.rule.mode (bank_literal first.tables.basis.bank.terms first.tables.basis.lits) c.args.lits.now c.loop-i.i c.literal_of.result c.literal_of.ensures
           goal_state (the_state self.tables self.plan) (the_state c.see.new.self.tables c.see.new.self.plan) self.plan.rule.mode

@@ -1,4 +1,4 @@
-use Rattle.std.proofs.Common.{◌+◌, Option, Some, refl, sym, ap, subst, arith}
+use Rattle.std.proofs.Common.{◌+◌, Option, Some, refl, sym, ap, subst, ◌∙◌, arith}
 use Rattle.command_queue.specs.Queue.{AddsEntryAt}
 use Rattle.search_spec.specs.Each.{Each}
 use Rattle.prover_state.specs.declared.command.Rest.{Rest}
@@ -19,10 +19,13 @@ returns-in-None-rest-clause-takes g c =
     takes-alone t self.plan c.pop.new.self e c.in-Some.ensures.first c.pop.ensures.spaced c.requires.right
     (ap (later_of (without_witnesses t.basis.bank) (sources t) (command_at (naming_in t) e.command.first)) c.in-None-rest.is)
 
-pub returns-in-None-rest-clause-right : goal.returns-in-None-rest-clause-right
-returns-in-None-rest-clause-right g c =
+pub returns-in-None-rest-clause-stays : goal.returns-in-None-rest-clause-stays
+returns-in-None-rest-clause-stays g c =
     let self = c.args.self.now in
-    right-alone self.tables self.plan c.pop.new.self c.in-Some.entry c.in-Some.ensures.first c.pop.ensures.spaced c.requires.right
+    record {
+      right = right-alone self.tables self.plan c.pop.new.self c.in-Some.entry c.in-Some.ensures.first c.pop.ensures.spaced c.requires.right;
+      rule = c.in-Some.ensures.first.rule;
+    }
 
 pub returns-then-rest-clause-takes : goal.returns-then-rest-clause-takes
 returns-then-rest-clause-takes g c =
@@ -32,10 +35,13 @@ returns-then-rest-clause-takes g c =
     takes-alone t self.plan c.pop.new.self e c.in-Some.ensures.first c.pop.ensures.spaced c.requires.right
     (none-left t self.plan c.pop.new.self e c.in-Some.ensures.first c.pop.ensures.spaced c.requires.right e.command.rest refl c.in-Some-rest.rest c.in-Some-rest.is c.if-rest.true)
 
-pub returns-then-rest-clause-right : goal.returns-then-rest-clause-right
-returns-then-rest-clause-right g c =
+pub returns-then-rest-clause-stays : goal.returns-then-rest-clause-stays
+returns-then-rest-clause-stays g c =
     let self = c.args.self.now in
-    right-alone self.tables self.plan c.pop.new.self c.in-Some.entry c.in-Some.ensures.first c.pop.ensures.spaced c.requires.right
+    record {
+      right = right-alone self.tables self.plan c.pop.new.self c.in-Some.entry c.in-Some.ensures.first c.pop.ensures.spaced c.requires.right;
+      rule = c.in-Some.ensures.first.rule;
+    }
 
 pub command_of-requires-clause-numbers : goal.command_of-requires-clause-numbers
 command_of-requires-clause-numbers g c =
@@ -88,13 +94,17 @@ returns-clause-takes g c =
     c.in-Some-rest.rest c.in-Some-rest.is c.if-rest.false c.in_ok-next.next c.in_ok-next.ensures.command c.in_ok-next.ensures.numbers
     c.put_back.new.self (subst P c.behind.ensures c.in_ok-put_back.ensures.ok)
 
-pub returns-clause-right : goal.returns-clause-right
-returns-clause-right g c =
+pub returns-clause-stays : goal.returns-clause-stays
+returns-clause-stays g c =
     let self = c.args.self.now in
     let P : Rest → Type 0 = λ x. AddsEntryAt c.pop.new.self c.put_back.new.self (record { due = c.in-Some.entry.due; number = c.in-Some.entry.number + 1; command = record { first = c.in_ok-next.next; rest = Some x } }) in
-    right-more self.tables self.plan c.pop.new.self c.in-Some.entry c.in-Some.ensures.first c.pop.ensures.spaced c.requires.right
-    c.in-Some-rest.rest c.in-Some-rest.is c.if-rest.false c.in_ok-next.next c.in_ok-next.ensures.command c.in_ok-next.ensures.numbers
-    c.put_back.new.self (subst P c.behind.ensures c.in_ok-put_back.ensures.ok)
+    record {
+      right =
+          right-more self.tables self.plan c.pop.new.self c.in-Some.entry c.in-Some.ensures.first c.pop.ensures.spaced c.requires.right
+          c.in-Some-rest.rest c.in-Some-rest.is c.if-rest.false c.in_ok-next.next c.in_ok-next.ensures.command c.in_ok-next.ensures.numbers
+          c.put_back.new.self (subst P c.behind.ensures c.in_ok-put_back.ensures.ok);
+      rule = c.in_ok-put_back.ensures.ok.rule ∙ c.in-Some.ensures.first.rule;
+    }
 
 pub command_of-requires-clause-right : goal.command_of-requires-clause-right
 command_of-requires-clause-right g c = (c.args.self.now.plan, c.requires.right)
