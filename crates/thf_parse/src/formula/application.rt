@@ -6,6 +6,7 @@ ghost use Rattle.thf_parse.specs.Internal.Reads.{ReadsFormula};
 use crate::cursor::Cursor;
 use crate::formula::unit::operand;
 use crate::refusal::Refusal;
+use crate::room::deeper;
 use std::alloc::Global;
 use thf_grammar::{Mark, Surface, Terminal};
 
@@ -37,14 +38,12 @@ fn next_argument(
 ) -> Result<Box<Surface>, Refusal>
     ensures { ReadsFormula cursor.new result (reader.next_argument (reader.inner room) (the_formula left.value) cursor.old) }
 {
-    if room == 0 {
-        return Err(Refusal::TooDeep);
-    }
+    let inner = deeper(room)?;
     let at = cursor.place();
     cursor.advance();
-    let arg = operand(alloc, room - 1, cursor)?;
+    let arg = operand(alloc, inner, cursor)?;
     let application = Surface::Apply { at, fun: left, arg };
-    arguments(alloc, room - 1, Box::new(alloc, application)?, cursor)
+    arguments(alloc, inner, Box::new(alloc, application)?, cursor)
 }
 
 /// The argument of `!!` or `??`, and those behind it, from the `@` on.
@@ -60,14 +59,12 @@ pub fn quantified(
 {
     match cursor.found() {
         Terminal::Mark(Mark::At) => {
-            if room == 0 {
-                return Err(Refusal::TooDeep);
-            }
+            let inner = deeper(room)?;
             let at = cursor.place();
             cursor.advance();
-            let arg = operand(alloc, room - 1, cursor)?;
+            let arg = operand(alloc, inner, cursor)?;
             let quantified = Surface::Quant { at, all, arg };
-            arguments(alloc, room - 1, Box::new(alloc, quantified)?, cursor)
+            arguments(alloc, inner, Box::new(alloc, quantified)?, cursor)
         }
         _ => Err(Refusal::Wrong),
     }

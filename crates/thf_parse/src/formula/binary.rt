@@ -7,6 +7,7 @@ ghost use Rattle.thf_parse.specs.Internal.Reads.{ReadsFormula};
 use crate::cursor::Cursor;
 use crate::formula::unit::unit;
 use crate::refusal::Refusal;
+use crate::room::deeper;
 use std::alloc::Global;
 use thf_grammar::{Conn, Surface, Terminal};
 
@@ -50,19 +51,17 @@ fn next_link(
 ) -> Result<Box<Surface>, Refusal>
     ensures { ReadsFormula cursor.new result (reader.next_link (reader.inner room) conn (the_formula left.value) cursor.old) }
 {
-    if room == 0 {
-        return Err(Refusal::TooDeep);
-    }
+    let inner = deeper(room)?;
     let at = cursor.place();
     cursor.advance();
-    let right = unit(alloc, room - 1, cursor)?;
+    let right = unit(alloc, inner, cursor)?;
     let pair = Surface::Binary {
         at,
         conn,
         left,
         right,
     };
-    links(alloc, room - 1, conn, Box::new(alloc, pair)?, cursor)
+    links(alloc, inner, conn, Box::new(alloc, pair)?, cursor)
 }
 
 /// The formula of a connective that has two operands, from the connective on.

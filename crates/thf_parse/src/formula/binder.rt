@@ -8,6 +8,7 @@ ghost use Rattle.thf_parse.specs.Internal.Reads.{ReadsFormula};
 use crate::cursor::Cursor;
 use crate::formula::unit::unit;
 use crate::refusal::Refusal;
+use crate::room::deeper;
 use crate::variable::{variable, with_variable};
 use std::alloc::Global;
 use thf_grammar::{Binder, Mark, Surface, SurfaceVars, Terminal};
@@ -44,9 +45,7 @@ pub fn bind(
     cursor.advance();
     match cursor.found() {
         Terminal::Mark(Mark::OpenList) => {
-            if room == 0 {
-                return Err(Refusal::TooDeep);
-            }
+            deeper(room)?;
             cursor.advance();
             next_variable(alloc, room, bound, SurfaceVars::new(alloc), cursor)
         }
@@ -68,10 +67,8 @@ fn next_variable(
 {
     match cursor.found() {
         Terminal::Upper => {
-            if room == 0 {
-                return Err(Refusal::TooDeep);
-            }
-            variables(alloc, room - 1, bound, vars, cursor)
+            let inner = deeper(room)?;
+            variables(alloc, inner, bound, vars, cursor)
         }
         _ => Err(Refusal::Wrong),
     }
@@ -89,10 +86,8 @@ fn variables(
 ) -> Result<Box<Surface>, Refusal>
     ensures { ReadsFormula cursor.new result (reader.bound (reader.inner room) bound.binder bound.at (the_vars vars) cursor.old) }
 {
-    if room == 0 {
-        return Err(Refusal::TooDeep);
-    }
-    let var = variable(alloc, room - 1, cursor)?;
+    let inner = deeper(room)?;
+    let var = variable(alloc, inner, cursor)?;
     let vars = with_variable(vars, var)?;
     behind_variable(alloc, room, bound, vars, cursor)
 }

@@ -8,6 +8,7 @@ use crate::formula::binary::tail;
 use crate::formula::formula;
 use crate::formula::unit::operand;
 use crate::refusal::Refusal;
+use crate::room::deeper;
 use std::alloc::Global;
 use thf_grammar::{Conn, Mark, Surface, Terminal};
 
@@ -16,11 +17,9 @@ use thf_grammar::{Conn, Mark, Surface, Terminal};
 pub fn group(alloc: Global, room: u32, cursor: &mut Cursor) -> Result<Box<Surface>, Refusal>
     ensures { ReadsFormula cursor.new result (reader.group_at (reader.inner room) cursor.old) }
 {
-    if room == 0 {
-        return Err(Refusal::TooDeep);
-    }
+    let inner = deeper(room)?;
     cursor.advance();
-    grouped(alloc, room - 1, cursor)
+    grouped(alloc, inner, cursor)
 }
 
 /// What stands behind a `(`, up to its `)`.
@@ -56,9 +55,7 @@ fn lone(alloc: Global, conn: Conn, cursor: &mut Cursor) -> Result<Box<Surface>, 
 fn negated(alloc: Global, room: u32, cursor: &mut Cursor) -> Result<Box<Surface>, Refusal>
     ensures { ReadsFormula cursor.new result (reader.negated_at (reader.inner room) cursor.old) }
 {
-    if room == 0 {
-        return Err(Refusal::TooDeep);
-    }
+    deeper(room)?;
     let at = cursor.place();
     cursor.advance();
     match cursor.found() {
@@ -82,10 +79,8 @@ fn negated_operand(
 ) -> Result<Box<Surface>, Refusal>
     ensures { ReadsFormula cursor.new result (reader.negated_operand (reader.inner room) at cursor.old) }
 {
-    if room == 0 {
-        return Err(Refusal::TooDeep);
-    }
-    let body = operand(alloc, room - 1, cursor)?;
+    let inner = deeper(room)?;
+    let body = operand(alloc, inner, cursor)?;
     let left = Box::new(alloc, Surface::Not { at, body })?;
     let whole = tail(alloc, room, left, cursor)?;
     closed(whole, cursor)

@@ -8,6 +8,7 @@ use crate::formula::atom::{constant, truth, variable_term};
 use crate::formula::binder::bind;
 use crate::formula::group::group;
 use crate::refusal::Refusal;
+use crate::room::deeper;
 use std::alloc::Global;
 use thf_grammar::{Conn, Mark, Surface, Terminal};
 
@@ -16,12 +17,10 @@ use thf_grammar::{Conn, Mark, Surface, Terminal};
 pub fn negation(alloc: Global, room: u32, cursor: &mut Cursor) -> Result<Box<Surface>, Refusal>
     ensures { ReadsFormula cursor.new result (reader.negation_at (reader.inner room) cursor.old) }
 {
-    if room == 0 {
-        return Err(Refusal::TooDeep);
-    }
+    let inner = deeper(room)?;
     let at = cursor.place();
     cursor.advance();
-    let body = operand(alloc, room - 1, cursor)?;
+    let body = operand(alloc, inner, cursor)?;
     Ok(Box::new(alloc, Surface::Not { at, body })?)
 }
 
