@@ -3,7 +3,7 @@ use Rattle.std.proofs.Common.{◌≡◌, ℕ, List, [], ◌∷◌, ◌++◌, cod
 use Rattle.refute_print.specs.Text.{as_bytes}
 use Rattle.refute_print.proofs.LineTexts.{as_bytes-append}
 use Rattle.refute_text.specs.Reading.{start_mark, end_mark}
-use Rattle.szs_report.specs.Report.{headed_report, model_report, line_report, demo_report, refused_report, counted_report}
+use Rattle.szs_report.specs.Report.{model_report, demo_report, counted_report}
 
 proof_start-parts : (first second last : List ℕ) (tree : List (List ℕ)) → as_bytes (first ∷ second ∷ (tree ++ last ∷ [])) ≡ as_bytes (first ∷ second ∷ []) ++ (as_bytes tree ++ as_bytes (last ∷ []))
 proof_start-parts first second last tree =
@@ -14,21 +14,6 @@ pub proof-pieces : (status name count : List ℕ) (mode tree : List (List ℕ)) 
 proof-pieces status name count mode tree text =
     rw (proof_start-parts (status ++ name) (codes "% commands " ++ count) (start_mark ++ name) (mode ++ tree), as_bytes-append mode tree) (simp append_assoc)
 
-pub headed-pieces : (status name word what : List ℕ) → headed_report status name word what ≡ status ++ (name ++ (codes "\n" ++ (word ++ (what ++ codes "\n"))))
-headed-pieces status name word what =
-    append_assoc status name (10 ∷ ((word ++ what) ++ codes "\n")) ∙ ap (λ x. status ++ (name ++ (10 ∷ x))) (append_assoc word what (codes "\n"))
-
-pub place-pieces : (status name word file count : List ℕ) → headed_report status name word (file ++ (codes " " ++ count)) ≡ status ++ (name ++ (codes "\n" ++ (word ++ (file ++ (codes " " ++ (count ++ (codes "\n" ++ [])))))))
-place-pieces status name word file count =
-    headed-pieces status name word (file ++ (codes " " ++ count))
-    ∙ ap (λ x. status ++ (name ++ (codes "\n" ++ (word ++ x)))) (append_assoc file (codes " " ++ count) (codes "\n"))
-
-pub place_why-pieces : (status name word file count why : List ℕ) → headed_report status name word ((file ++ (codes " " ++ count)) ++ (codes " " ++ why)) ≡ status ++ (name ++ (codes "\n" ++ (word ++ (file ++ (codes " " ++ (count ++ (codes " " ++ (why ++ (codes "\n" ++ [])))))))))
-place_why-pieces status name word file count why =
-    headed-pieces status name word ((file ++ (codes " " ++ count)) ++ (codes " " ++ why))
-    ∙ ap (λ x. status ++ (name ++ (codes "\n" ++ (word ++ x))))
-    (append_assoc (file ++ (codes " " ++ count)) (codes " " ++ why) (codes "\n") ∙ append_assoc file (codes " " ++ count) (codes " " ++ (why ++ codes "\n")))
-
 pub model-pieces : (status name size lines : List ℕ) → model_report status name size lines ≡ status ++ (name ++ (codes "\n% SZS output start FiniteModel for " ++ (name ++ (codes "\nsize " ++ (size ++ (codes "\n" ++ (lines ++ (codes "% SZS output end FiniteModel for " ++ (name ++ (codes "\n" ++ []))))))))))
 model-pieces status name size lines =
     let end : List ℕ = lines ++ (codes "% SZS output end FiniteModel for " ++ (name ++ codes "\n")) in
@@ -38,15 +23,6 @@ model-pieces status name size lines =
     ∙ append_assoc status name ((codes "\n% SZS output start FiniteModel for " ++ started) ++ end)
     ∙ ap (λ x. status ++ (name ++ (codes "\n% SZS output start FiniteModel for " ++ x)))
     (append_assoc name (codes "\nsize " ++ sized) end ∙ ap (λ x. name ++ (codes "\nsize " ++ x)) (append_assoc size (codes "\n") end))
-
-pub line-pieces : (word name : List ℕ) → line_report word name ≡ word ++ (name ++ (codes "\n" ++ []))
-line-pieces word name = append_assoc word name (codes "\n")
-
-pub refused-pieces : (name line word : List ℕ) → refused_report name line word ≡ codes "% refutation refused for " ++ (name ++ (codes " line " ++ (line ++ (codes " " ++ (word ++ (codes "\n" ++ []))))))
-refused-pieces name line word =
-    ap (λ x. codes "% refutation refused for " ++ x)
-    (append_assoc name (codes " line " ++ (line ++ (codes " " ++ word))) (codes "\n")
-    ∙ ap (λ x. name ++ (codes " line " ++ x)) (append_assoc line (codes " " ++ word) (codes "\n")))
 
 pub demo-pieces : (status name count : List ℕ) → demo_report status name count ≡ status ++ (name ++ (codes "\n% commands " ++ (count ++ (codes "\n% refutation accepted for " ++ (name ++ (codes "\n" ++ []))))))
 demo-pieces status name count = append_assoc status name _

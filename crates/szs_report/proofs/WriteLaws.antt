@@ -1,6 +1,7 @@
 -- Texts that are written piece by piece.
 use Rattle.std.proofs.Common.{◌≡◌, ℕ, zero, suc, ◌+◌, ◌≤◌, Bool, List, [], ◌∷◌, ◌++◌, take, drop, slice_get, Some, sym, ap, subst, ◌∙◌, append-nil, append_assoc, add-one, ◌<◌, length, get_or, arith, Result, Ok, Err, OnOk, OnErr, IsTrue}
 use Rattle.std.specs.List.{flat_map}
+use Rattle.std.proofs.lemmas.Grind.{flat_map-append}
 use Rattle.outside.specs.Causes.{Rose}
 use Rattle.outside.specs.Prefix.{AppendsProperly}
 use Rattle.outside.specs.Writing.{Took, Stopped}
@@ -27,6 +28,21 @@ around : {X : Type 0} (f : X → List ℕ) (xs : List X) (i : ℕ) (x : X) → s
 around f [] i x there = cc
 around f (y ∷ xs) zero x there = let same : y ≡ x = cc in ap (λ z. f z ++ flat_map f xs) same
 around f (y ∷ xs) (suc i) x there = ap (λ z. f y ++ z) (around f xs i x there) ∙ sym (append_assoc (f y) (flat_map f (take i xs)) (f x ++ flat_map f (drop (suc i) xs)))
+
+nothing_behind : (a b : List ℕ) → a ++ b ≡ [] → b ≡ []
+nothing_behind [] b none = none
+nothing_behind (x ∷ a) b none = cc
+
+-- of empty pieces, those from one on
+drop_empty : {X : Type 0} (f : X → List ℕ) (xs : List X) (n : ℕ) → flat_map f xs ≡ [] → flat_map f (drop n xs) ≡ []
+drop_empty f [] zero none = none
+drop_empty f [] (suc n) none = none
+drop_empty f (x ∷ xs) zero none = none
+drop_empty f (x ∷ xs) (suc n) none = drop_empty f xs n (nothing_behind (f x) (flat_map f xs) none)
+
+-- pieces with empty ones behind them
+pub padded : {X : Type 0} (f : X → List ℕ) (xs ys : List X) (n : ℕ) → flat_map f ys ≡ [] → flat_map f (xs ++ drop n ys) ≡ flat_map f xs
+padded f xs ys n none = flat_map-append f xs (drop n ys) ∙ ap (λ z. flat_map f xs ++ z) (drop_empty f ys n none) ∙ append-nil (flat_map f xs)
 
 module _ {S : Type 0} (tells : S → Bool) (written : S → List ℕ) (faults : S → ℕ) where
   pub writes_by : {E : Type 0} (s t : S) (text : List ℕ) (r : Result (Unit {0}) E) →

@@ -1,263 +1,191 @@
-//! Writes the report of an answer. It takes no memory.
+//! The report of an answer: its pieces, and their writing. It takes no memory.
 
 ghost use Rattle.std.specs.Prelude.{◌≡◌, ◌≤◌, ◌++◌, OnOk, OnErr, IsTrue, codes, decimal};
 ghost use Rattle.outside.specs.Causes.{Rose};
 ghost use Rattle.outside.specs.Prefix.{AppendsProperly};
 ghost use Rattle.refute_print.specs.Text.{as_bytes};
-ghost use Rattle.szs_report.specs.Internal.Pieces.{piece_bytes, Writes};
-ghost use Rattle.szs_report.specs.Report.{headed_report, line_report, mode_lines, tree_lines, proof_report, model_report, claim_status, file_name, place_report, ill_word, include_word, mode_word, schedule_word, refused_report, refused_in, demo_report, line_why, report_of};
+ghost use Rattle.szs_report.specs.Internal.Pieces.{piece_bytes};
+ghost use Rattle.szs_report.specs.Report.{headed_report, line_report, mode_lines, tree_lines, proof_report, model_report, claim_status, file_name, place_report, refused_report, refused_in, demo_report, line_why, ill_word, include_word, mode_word, schedule_word, why_word, report_of};
 
 use crate::answer::{Answer, Claim, NamedFile, TreeReport};
 use crate::causes::{ill_word, include_word, mode_word, schedule_word, why_word};
 use crate::outcome::{IncludeWhy, ModeWhy, ScheduleWhy};
-use crate::piece::{Piece, write_each};
+use crate::piece::{Piece, Pieces};
 use crate::proof_text::ProofText;
-use outside::{Failed, Sink};
+use outside::{Bytes, Failed, Sink};
+use tableau_calculus::Why;
 use type_check::IllWhy;
 
-const COUNTER_SATISFIABLE: &[u8] = b"% SZS status CounterSatisfiable for ";
+/// What stands before the name where a model is one in which the conjecture fails.
+const COUNTER_MODEL: &[u8] = b"% SZS status CounterSatisfiable for ";
 
-const SATISFIABLE: &[u8] = b"% SZS status Satisfiable for ";
+/// What stands before the name where there is no conjecture.
+const MODEL: &[u8] = b"% SZS status Satisfiable for ";
 
-const GAVE_UP: &[u8] = b"% SZS status GaveUp for ";
+/// What stands before a size that has too many candidates for a model.
+const TOO_MANY: &[u8] = b"% models too many at size ";
 
 const RESOURCE_OUT: &[u8] = b"% SZS status ResourceOut for ";
 
-const SYNTAX_ERROR: &[u8] = b"% SZS status SyntaxError for ";
-
 const INPUT_ERROR: &[u8] = b"% SZS status InputError for ";
-
-/// What stands before the number of commands.
-const COMMANDS: &[u8] = b"% commands ";
-
-/// What stands before the size up to which there is no model.
-const NO_MODEL: &[u8] = b"% no model up to ";
-/// What stands before a size that has too many candidates for a model.
-const TOO_MANY: &[u8] = b"% models too many at size ";
 
 const USAGE: &[u8] =
     b"% usage: satallax [--mode FILE] [--check FILE] [--demo N] [--models K] [--schedule FILE] [--tree N] [--strict FILE] [--same] PROBLEM\n";
 
-/// Writes a report of one line.
-fn write_line<'a, S: Sink>(out: &mut S, word: &'a [u8], name: &'a [u8]) -> Result<(), Failed>
-    ensures { Writes S.tells S.written S.faults out.old out.new (line_report word.now name.now) result }
+/// A report that is a text alone.
+fn alone(text: &[u8]) -> Pieces<'_>
+    ensures { result ≡ text.now }
 {
-    write_each(
-        out,
-        &[Piece::Bytes(word), Piece::Bytes(name), Piece::Bytes(b"\n")],
-    )
+    Pieces::of(&[Piece::Bytes(text)])
 }
 
-/// Writes a report of two lines, of which the second ends with a piece.
-fn write_headed<'a, S: Sink>(
-    out: &mut S,
-    status: &'a [u8],
-    name: &'a [u8],
-    word: &'a [u8],
-    what: Piece<'a>,
-) -> Result<(), Failed>
-    ensures { Writes S.tells S.written S.faults out.old out.new
-        (headed_report status.now name.now word.now (piece_bytes what.entry)) result }
+/// A report of one line.
+fn one_line<'a>(word: &'a [u8], name: &'a [u8]) -> Pieces<'a>
+    ensures { result ≡ line_report word.now name.now }
 {
-    write_each(
-        out,
-        &[
-            Piece::Bytes(status),
-            Piece::Bytes(name),
-            Piece::Bytes(b"\n"),
-            Piece::Bytes(word),
-            what,
-            Piece::Bytes(b"\n"),
-        ],
-    )
+    Pieces::of(&[Piece::Bytes(word), Piece::Bytes(name), Piece::Bytes(b"\n")])
 }
 
-/// Writes a report of two lines, of which the second ends with a number.
-fn write_numbered<S: Sink>(
-    out: &mut S,
-    status: &[u8],
-    name: &[u8],
-    word: &[u8],
-    number: u32,
-) -> Result<(), Failed>
-    ensures { Writes S.tells S.written S.faults out.old out.new (headed_report status.now name.now word.now (decimal number)) result }
+/// A report of two lines, of which the second ends with a piece.
+fn headed<'a>(status: &'a [u8], name: &'a [u8], word: &'a [u8], what: Piece<'a>) -> Pieces<'a>
+    ensures { result ≡ headed_report status.now name.now word.now (piece_bytes what.entry) }
 {
-    let number = u64::from(number);
-    write_headed(out, status, name, word, Piece::Number(number))
+    Pieces::of(&[
+        Piece::Bytes(status),
+        Piece::Bytes(name),
+        Piece::Bytes(b"\n"),
+        Piece::Bytes(word),
+        what,
+        Piece::Bytes(b"\n"),
+    ])
 }
 
-/// Writes the report of a spent conflict budget.
-fn write_spent<S: Sink>(out: &mut S, name: &[u8], conflicts: u64) -> Result<(), Failed>
-    ensures { Writes S.tells S.written S.faults out.old out.new
-        (headed_report (codes "% SZS status ResourceOut for ") name.now (codes "% conflict limit ") (decimal conflicts)) result }
+/// The report of a search that found nothing.
+fn gave_up<'a>(name: &'a [u8], word: &'a [u8], number: u32) -> Pieces<'a>
+    ensures { result ≡ headed_report (codes "% SZS status GaveUp for ") name.now word.now (decimal number) }
 {
-    let conflicts = Piece::Number(conflicts);
-    write_headed(out, RESOURCE_OUT, name, b"% conflict limit ", conflicts)
+    let number = Piece::Number(u64::from(number));
+    headed(b"% SZS status GaveUp for ", name, word, number)
 }
 
-/// Writes the report of a whole file.
-fn write_file<S: Sink>(
-    out: &mut S,
-    name: &[u8],
-    word: &[u8],
-    file: &NamedFile,
-) -> Result<(), Failed>
-    ensures { Writes S.tells S.written S.faults out.old out.new
-        (headed_report (codes "% SZS status InputError for ") name.now word.now (file_name file.now)) result }
+/// The report of a limit that is reached.
+fn resource_out<'a>(name: &'a [u8], word: &'a [u8], number: u64) -> Pieces<'a>
+    ensures { result ≡ headed_report (codes "% SZS status ResourceOut for ") name.now word.now (decimal number) }
 {
-    write_headed(out, INPUT_ERROR, name, word, Piece::Bytes(file.name()))
+    headed(RESOURCE_OUT, name, word, Piece::Number(number))
 }
 
-/// Writes the report of a wrong token of a file.
-fn write_syntax<'a, S: Sink>(
-    out: &mut S,
-    name: &'a [u8],
-    file: &'a NamedFile,
-    at: u32,
-) -> Result<(), Failed>
-    ensures { Writes S.tells S.written S.faults out.old out.new
-        (headed_report (codes "% SZS status SyntaxError for ") name.now (codes "% syntax ") (place_report (file_name file.now) at)) result }
+/// The report of a whole file.
+fn input_error<'a>(name: &'a [u8], word: &'a [u8], file: &'a NamedFile) -> Pieces<'a>
+    ensures { result ≡ headed_report (codes "% SZS status InputError for ") name.now word.now (file_name file.now) }
 {
-    write_each(
-        out,
-        &[
-            Piece::Bytes(SYNTAX_ERROR),
-            Piece::Bytes(name),
-            Piece::Bytes(b"\n"),
-            Piece::Bytes(b"% syntax "),
-            Piece::Bytes(file.name()),
-            Piece::Bytes(b" "),
-            Piece::Number(u64::from(at)),
-            Piece::Bytes(b"\n"),
-        ],
-    )
+    headed(INPUT_ERROR, name, word, Piece::Bytes(file.name()))
 }
 
-/// Writes the report of a place of a file that is refused, and why it is.
-fn write_refused<'a, S: Sink>(
-    out: &mut S,
+/// The report of a wrong token of a file.
+fn syntax_error<'a>(name: &'a [u8], file: &'a NamedFile, at: u32) -> Pieces<'a>
+    ensures { result ≡ headed_report (codes "% SZS status SyntaxError for ") name.now (codes "% syntax ")
+        (place_report (file_name file.now) at) }
+{
+    Pieces::of(&[
+        Piece::Bytes(b"% SZS status SyntaxError for "),
+        Piece::Bytes(name),
+        Piece::Bytes(b"\n% syntax "),
+        Piece::Bytes(file.name()),
+        Piece::Bytes(b" "),
+        Piece::Number(u64::from(at)),
+        Piece::Bytes(b"\n"),
+    ])
+}
+
+/// The report of a place of a file that is refused, and why it is.
+fn bad_place<'a>(
     name: &'a [u8],
     word: &'a [u8],
     file: &'a NamedFile,
     at: u32,
-    why: &'a [u8],
-) -> Result<(), Failed>
-    ensures { Writes S.tells S.written S.faults out.old out.new
-        (headed_report (codes "% SZS status InputError for ") name.now word.now (refused_in (file_name file.now) at why.now)) result }
+    why: Piece<'a>,
+) -> Pieces<'a>
+    ensures { result ≡ headed_report (codes "% SZS status InputError for ") name.now word.now
+        (refused_in (file_name file.now) at (piece_bytes why.entry)) }
 {
-    write_each(
-        out,
-        &[
-            Piece::Bytes(INPUT_ERROR),
-            Piece::Bytes(name),
-            Piece::Bytes(b"\n"),
-            Piece::Bytes(word),
-            Piece::Bytes(file.name()),
-            Piece::Bytes(b" "),
-            Piece::Number(u64::from(at)),
-            Piece::Bytes(b" "),
-            Piece::Bytes(why),
-            Piece::Bytes(b"\n"),
-        ],
-    )
+    Pieces::of(&[
+        Piece::Bytes(INPUT_ERROR),
+        Piece::Bytes(name),
+        Piece::Bytes(b"\n"),
+        Piece::Bytes(word),
+        Piece::Bytes(file.name()),
+        Piece::Bytes(b" "),
+        Piece::Number(u64::from(at)),
+        Piece::Bytes(b" "),
+        why,
+        Piece::Bytes(b"\n"),
+    ])
 }
 
-/// Writes the report of a statement that has no type.
-fn write_ill<S: Sink>(
-    out: &mut S,
-    name: &[u8],
-    file: &NamedFile,
-    at: u32,
-    why: IllWhy,
-) -> Result<(), Failed>
-    ensures { Writes S.tells S.written S.faults out.old out.new
-        (headed_report (codes "% SZS status InputError for ") name.now (codes "% type ") (refused_in (file_name file.now) at (ill_word why))) result }
+/// The report of a statement that has no meaning.
+fn bad_type<'a>(name: &'a [u8], file: &'a NamedFile, at: u32, why: IllWhy) -> Pieces<'a>
+    ensures { result ≡ headed_report (codes "% SZS status InputError for ") name.now (codes "% type ")
+        (refused_in (file_name file.now) at (ill_word why)) }
 {
-    write_refused(out, name, b"% type ", file, at, ill_word(why))
+    bad_place(name, b"% type ", file, at, Piece::Bytes(ill_word(why)))
 }
 
-/// Writes the report of an include that is refused.
-fn write_include<S: Sink>(
-    out: &mut S,
-    name: &[u8],
-    file: &NamedFile,
-    at: u32,
-    why: IncludeWhy,
-) -> Result<(), Failed>
-    ensures { Writes S.tells S.written S.faults out.old out.new
-        (headed_report (codes "% SZS status InputError for ") name.now (codes "% include ") (refused_in (file_name file.now) at (include_word why))) result }
+/// The report of an include that isn't followed.
+fn bad_include<'a>(name: &'a [u8], file: &'a NamedFile, at: u32, why: IncludeWhy) -> Pieces<'a>
+    ensures { result ≡ headed_report (codes "% SZS status InputError for ") name.now (codes "% include ")
+        (refused_in (file_name file.now) at (include_word why)) }
 {
-    write_refused(out, name, b"% include ", file, at, include_word(why))
+    let why = Piece::Bytes(include_word(why));
+    bad_place(name, b"% include ", file, at, why)
 }
 
-/// Writes the report of a line of a mode's file or of a schedule's that isn't taken, and why.
-fn write_line_why<'a, S: Sink>(
-    out: &mut S,
-    name: &'a [u8],
-    word: &'a [u8],
-    line: u32,
-    why: &'a [u8],
-) -> Result<(), Failed>
-    ensures { Writes S.tells S.written S.faults out.old out.new
-        (headed_report (codes "% SZS status InputError for ") name.now word.now (line_why (decimal line) why.now)) result }
+/// The report of a line of a mode's file or of a schedule's that isn't taken, and why.
+fn bad_line<'a>(name: &'a [u8], word: &'a [u8], line: u32, why: Piece<'a>) -> Pieces<'a>
+    ensures { result ≡ headed_report (codes "% SZS status InputError for ") name.now word.now
+        (line_why (decimal line) (piece_bytes why.entry)) }
 {
-    write_each(
-        out,
-        &[
-            Piece::Bytes(INPUT_ERROR),
-            Piece::Bytes(name),
-            Piece::Bytes(b"\n"),
-            Piece::Bytes(word),
-            Piece::Number(u64::from(line)),
-            Piece::Bytes(b" "),
-            Piece::Bytes(why),
-            Piece::Bytes(b"\n"),
-        ],
-    )
+    Pieces::of(&[
+        Piece::Bytes(INPUT_ERROR),
+        Piece::Bytes(name),
+        Piece::Bytes(b"\n"),
+        Piece::Bytes(word),
+        Piece::Number(u64::from(line)),
+        Piece::Bytes(b" "),
+        why,
+        Piece::Bytes(b"\n"),
+    ])
 }
 
-/// Writes the report of a line of a mode's file that isn't taken.
-fn write_mode<S: Sink>(out: &mut S, name: &[u8], line: u32, why: ModeWhy) -> Result<(), Failed>
-    ensures { Writes S.tells S.written S.faults out.old out.new
-        (headed_report (codes "% SZS status InputError for ") name.now (codes "% mode ") (line_why (decimal line) (mode_word why))) result }
+/// The report of a line of a mode's file that isn't taken.
+fn bad_mode(name: &[u8], line: u32, why: ModeWhy) -> Pieces<'_>
+    ensures { result ≡ headed_report (codes "% SZS status InputError for ") name.now (codes "% mode ")
+        (line_why (decimal line) (mode_word why)) }
 {
-    write_line_why(out, name, b"% mode ", line, mode_word(why))
+    bad_line(name, b"% mode ", line, Piece::Bytes(mode_word(why)))
 }
 
-/// Writes the report of a line of a schedule's file that isn't taken.
-fn write_schedule<S: Sink>(
-    out: &mut S,
-    name: &[u8],
-    line: u32,
-    why: ScheduleWhy,
-) -> Result<(), Failed>
-    ensures { Writes S.tells S.written S.faults out.old out.new
-        (headed_report (codes "% SZS status InputError for ") name.now (codes "% schedule ") (line_why (decimal line) (schedule_word why))) result }
+/// The report of a line of a schedule's file that isn't taken.
+fn bad_schedule(name: &[u8], line: u32, why: ScheduleWhy) -> Pieces<'_>
+    ensures { result ≡ headed_report (codes "% SZS status InputError for ") name.now (codes "% schedule ")
+        (line_why (decimal line) (schedule_word why)) }
 {
-    write_line_why(out, name, b"% schedule ", line, schedule_word(why))
+    bad_line(name, b"% schedule ", line, Piece::Bytes(schedule_word(why)))
 }
 
-/// Writes the report of a text that is refused at a line.
-fn write_refusal<'a, S: Sink>(
-    out: &mut S,
-    name: &'a [u8],
-    line: usize,
-    why: &'a [u8],
-) -> Result<(), Failed>
-    ensures { Writes S.tells S.written S.faults out.old out.new (refused_report name.now (decimal line) why.now) result }
+/// The report of a text that is refused at a line.
+fn refusal(name: &[u8], line: usize, why: Why) -> Pieces<'_>
+    ensures { result ≡ refused_report name.now (decimal line) (why_word why) }
 {
-    write_each(
-        out,
-        &[
-            Piece::Bytes(b"% refutation refused for "),
-            Piece::Bytes(name),
-            Piece::Bytes(b" line "),
-            Piece::Number(line as u64),
-            Piece::Bytes(b" "),
-            Piece::Bytes(why),
-            Piece::Bytes(b"\n"),
-        ],
-    )
+    Pieces::of(&[
+        Piece::Bytes(b"% refutation refused for "),
+        Piece::Bytes(name),
+        Piece::Bytes(b" line "),
+        Piece::Number(line as u64),
+        Piece::Bytes(b" "),
+        Piece::Bytes(why_word(why)),
+        Piece::Bytes(b"\n"),
+    ])
 }
 
 /// The head of the report of a proof.
@@ -270,50 +198,38 @@ fn claim_status(claim: Claim) -> &'static [u8]
     }
 }
 
-/// Writes the report of a generated problem that is proved after so many commands.
-fn write_demo<S: Sink>(out: &mut S, name: &[u8], claim: Claim, commands: u32) -> Result<(), Failed>
-    ensures { Writes S.tells S.written S.faults out.old out.new (demo_report (claim_status claim) name.now (decimal commands)) result }
+/// The report of a generated problem that is proved after so many commands.
+fn demo<'a>(name: &'a [u8], claim: Claim, commands: u32) -> Pieces<'a>
+    ensures { result ≡ demo_report (claim_status claim) name.now (decimal commands) }
 {
-    write_each(
-        out,
-        &[
-            Piece::Bytes(claim_status(claim)),
-            Piece::Bytes(name),
-            Piece::Bytes(b"\n% commands "),
-            Piece::Number(u64::from(commands)),
-            Piece::Bytes(b"\n% refutation accepted for "),
-            Piece::Bytes(name),
-            Piece::Bytes(b"\n"),
-        ],
-    )
+    Pieces::of(&[
+        Piece::Bytes(claim_status(claim)),
+        Piece::Bytes(name),
+        Piece::Bytes(b"\n% commands "),
+        Piece::Number(u64::from(commands)),
+        Piece::Bytes(b"\n% refutation accepted for "),
+        Piece::Bytes(name),
+        Piece::Bytes(b"\n"),
+    ])
 }
 
-/// Writes the report of a model.
-fn write_model<'a, S: Sink>(
-    out: &mut S,
-    status: &'a [u8],
-    name: &'a [u8],
-    size: u32,
-    lines: &'a [u8],
-) -> Result<(), Failed>
-    ensures { Writes S.tells S.written S.faults out.old out.new (model_report status.now name.now (decimal size) lines.now) result }
+/// The report of a model.
+fn model<'a>(status: &'a [u8], name: &'a [u8], size: u32, lines: &'a Bytes) -> Pieces<'a>
+    ensures { result ≡ model_report status.now name.now (decimal size) lines.now }
 {
-    write_each(
-        out,
-        &[
-            Piece::Bytes(status),
-            Piece::Bytes(name),
-            Piece::Bytes(b"\n% SZS output start FiniteModel for "),
-            Piece::Bytes(name),
-            Piece::Bytes(b"\nsize "),
-            Piece::Number(u64::from(size)),
-            Piece::Bytes(b"\n"),
-            Piece::Bytes(lines),
-            Piece::Bytes(b"% SZS output end FiniteModel for "),
-            Piece::Bytes(name),
-            Piece::Bytes(b"\n"),
-        ],
-    )
+    Pieces::of(&[
+        Piece::Bytes(status),
+        Piece::Bytes(name),
+        Piece::Bytes(b"\n% SZS output start FiniteModel for "),
+        Piece::Bytes(name),
+        Piece::Bytes(b"\nsize "),
+        Piece::Number(u64::from(size)),
+        Piece::Bytes(b"\n"),
+        Piece::Bytes(lines.as_slice()),
+        Piece::Bytes(b"% SZS output end FiniteModel for "),
+        Piece::Bytes(name),
+        Piece::Bytes(b"\n"),
+    ])
 }
 
 /// The mode that proved the problem, where several take turns, as a line.
@@ -338,43 +254,38 @@ fn tree_line(tree: TreeReport) -> Piece<'static>
     }
 }
 
-/// Writes the report of a proof.
-fn write_proof<'a, S: Sink>(
-    out: &mut S,
+/// The report of a proof.
+fn proof<'a>(
     name: &'a [u8],
     claim: Claim,
     commands: u32,
     mode: Option<u32>,
     tree: TreeReport,
     text: &'a ProofText,
-) -> Result<(), Failed>
-    ensures { Writes S.tells S.written S.faults out.old out.new
-        (proof_report (claim_status claim) name.now commands mode tree text.now) result }
+) -> Pieces<'a>
+    ensures { result ≡ proof_report (claim_status claim) name.now commands mode tree text.now }
 {
-    write_each(
-        out,
-        &[
-            Piece::Bytes(claim_status(claim)),
-            Piece::Bytes(name),
-            Piece::Bytes(b"\n% commands "),
-            Piece::Number(u64::from(commands)),
-            Piece::Bytes(b"\n"),
-            mode_line(mode),
-            tree_line(tree),
-            Piece::Bytes(b"% SZS output start Refutation for "),
-            Piece::Bytes(name),
-            Piece::Bytes(b"\n"),
-            Piece::Text(text),
-            Piece::Bytes(b"% SZS output end Refutation for "),
-            Piece::Bytes(name),
-            Piece::Bytes(b"\n"),
-        ],
-    )
+    Pieces::of(&[
+        Piece::Bytes(claim_status(claim)),
+        Piece::Bytes(name),
+        Piece::Bytes(b"\n% commands "),
+        Piece::Number(u64::from(commands)),
+        Piece::Bytes(b"\n"),
+        mode_line(mode),
+        tree_line(tree),
+        Piece::Bytes(b"% SZS output start Refutation for "),
+        Piece::Bytes(name),
+        Piece::Bytes(b"\n"),
+        Piece::Text(text),
+        Piece::Bytes(b"% SZS output end Refutation for "),
+        Piece::Bytes(name),
+        Piece::Bytes(b"\n"),
+    ])
 }
 
-/// Writes the report of an answer for a problem of this name.
-fn write_answer<S: Sink>(out: &mut S, name: &[u8], answer: &Answer) -> Result<(), Failed>
-    ensures { Writes S.tells S.written S.faults out.old out.new (report_of name.now answer.now) result }
+/// The report of an answer for a problem of this name.
+fn report_of<'a>(name: &'a [u8], answer: &'a Answer) -> Pieces<'a>
+    ensures { result ≡ report_of name.now answer.now }
 {
     match answer {
         Answer::Proved {
@@ -383,36 +294,32 @@ fn write_answer<S: Sink>(out: &mut S, name: &[u8], answer: &Answer) -> Result<()
             mode,
             tree,
             text,
-        } => write_proof(out, name, *claim, *commands, *mode, *tree, text),
-        Answer::GaveUp { commands } => write_numbered(out, GAVE_UP, name, COMMANDS, *commands),
+        } => proof(name, *claim, *commands, *mode, *tree, text),
+        Answer::GaveUp { commands } => gave_up(name, b"% commands ", *commands),
         Answer::CommandLimit { commands } => {
-            write_numbered(out, RESOURCE_OUT, name, b"% command limit ", *commands)
+            resource_out(name, b"% command limit ", u64::from(*commands))
         }
-        Answer::ConflictLimit { conflicts } => write_spent(out, name, *conflicts),
-        Answer::DemoDone { claim, commands } => write_demo(out, name, *claim, *commands),
-        Answer::Accepted => write_line(out, b"% refutation accepted for ", name),
-        Answer::Refused { line, why } => write_refusal(out, name, *line, why_word(*why)),
-        Answer::CounterSatisfiable { size, lines } => {
-            write_model(out, COUNTER_SATISFIABLE, name, *size, lines.as_slice())
-        }
-        Answer::Satisfiable { size, lines } => {
-            write_model(out, SATISFIABLE, name, *size, lines.as_slice())
-        }
-        Answer::NoneSmall { upto } => write_numbered(out, GAVE_UP, name, NO_MODEL, *upto),
-        Answer::ModelsTooMany { size } => write_numbered(out, RESOURCE_OUT, name, TOO_MANY, *size),
-        Answer::Same => write_line(out, b"% sides convertible for ", name),
-        Answer::Different => write_line(out, b"% sides not convertible for ", name),
-        Answer::NoEquation => write_line(out, b"% no equation for ", name),
-        Answer::SyntaxAt { file, at } => write_syntax(out, name, file, *at),
-        Answer::TypeAt { file, at, why } => write_ill(out, name, file, *at, *why),
-        Answer::IncludeAt { file, at, why } => write_include(out, name, file, *at, *why),
-        Answer::ModeAt { line, why } => write_mode(out, name, *line, *why),
-        Answer::ScheduleAt { line, why } => write_schedule(out, name, *line, *why),
-        Answer::Words => write_each(out, &[Piece::Bytes(USAGE)]),
-        Answer::TooLong { file } => write_file(out, name, b"% too long ", file),
-        Answer::ReadFault { file } => write_file(out, name, b"% read fault ", file),
-        Answer::Memory => write_headed(out, RESOURCE_OUT, name, b"% memory", Piece::Bytes(b"")),
-        Answer::UnreadWords => write_each(out, &[Piece::Bytes(b"% memory\n")]),
+        Answer::ConflictLimit { conflicts } => resource_out(name, b"% conflict limit ", *conflicts),
+        Answer::DemoDone { claim, commands } => demo(name, *claim, *commands),
+        Answer::Accepted => one_line(b"% refutation accepted for ", name),
+        Answer::Refused { line, why } => refusal(name, *line, *why),
+        Answer::CounterSatisfiable { size, lines } => model(COUNTER_MODEL, name, *size, lines),
+        Answer::Satisfiable { size, lines } => model(MODEL, name, *size, lines),
+        Answer::NoneSmall { upto } => gave_up(name, b"% no model up to ", *upto),
+        Answer::ModelsTooMany { size } => resource_out(name, TOO_MANY, u64::from(*size)),
+        Answer::Same => one_line(b"% sides convertible for ", name),
+        Answer::Different => one_line(b"% sides not convertible for ", name),
+        Answer::NoEquation => one_line(b"% no equation for ", name),
+        Answer::SyntaxAt { file, at } => syntax_error(name, file, *at),
+        Answer::TypeAt { file, at, why } => bad_type(name, file, *at, *why),
+        Answer::IncludeAt { file, at, why } => bad_include(name, file, *at, *why),
+        Answer::ModeAt { line, why } => bad_mode(name, *line, *why),
+        Answer::ScheduleAt { line, why } => bad_schedule(name, *line, *why),
+        Answer::Words => alone(USAGE),
+        Answer::TooLong { file } => input_error(name, b"% too long ", file),
+        Answer::ReadFault { file } => input_error(name, b"% read fault ", file),
+        Answer::Memory => headed(RESOURCE_OUT, name, b"% memory", Piece::Bytes(b"")),
+        Answer::UnreadWords => alone(b"% memory\n"),
     }
 }
 
@@ -427,5 +334,5 @@ pub fn write_report<S: Sink>(out: &mut S, name: &[u8], answer: &Answer) -> Resul
     ensures later { S.faults out.old ≤ S.faults out.new }
     ensures telling { IsTrue (S.tells out.old) → IsTrue (S.tells out.new) }
 {
-    write_answer(out, name, answer)
+    report_of(name, answer).write_to(out)
 }

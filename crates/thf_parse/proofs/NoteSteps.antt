@@ -1,26 +1,17 @@
--- The list behind a `[`, and the loop over what stands between commas in notes.
-use Rattle.std.proofs.Common.{◌≡◌, ◌≢◌, ℕ, zero, suc, ◌-◌, ◌<◌, List, length, Result, true, false, refl, sym, ap, subst, ◌∙◌, arith}
+-- The loop over what stands between commas in notes.
+use Rattle.std.proofs.Common.{◌≡◌, ℕ, ◌<◌, List, length, true, false, sym, ap, ◌∙◌, arith}
 use Rattle.thf_parse.specs.declared.refusal.Refusal.{Refusal}
 use Rattle.thf_parse.specs.declared.refusal.Refusal.TheVariants.{Wrong, TooDeep, Memory}
 use Rattle.thf_grammar.specs.declared.terminal.Mark.TheVariants.{Comma}
 use Rattle.thf_grammar.specs.Words.{Lexeme}
 use Rattle.thf_parse.specs.Internal.Outcome.{found, Reader, first_terminal, lexemes_behind}
 use Rattle.thf_grammar.specs.Internal.Marks.{is_mark}
-use Rattle.thf_parse.specs.Internal.Passes.{IsRefusal, Passes}
-use Rattle.thf_parse.specs.Internal.NoteReader.{passed, all_commas, general, generals, list_reader, list_at, inner_notes}
+use Rattle.thf_parse.specs.Internal.Passes.{IsRefusal}
+use Rattle.thf_parse.specs.Internal.NoteReader.{passed, all_commas, general, generals, inner_notes}
 use Rattle.thf_parse.proofs.Locals.{IsLocal, rest_of, rest-length}
 use Rattle.thf_parse.proofs.MarkLaws.{is_mark-is}
 use Rattle.thf_parse.proofs.CommaLaws.{all-more, all-last, all-wrong, all-deep, comma-shorter}
 use Rattle.thf_parse.proofs.NoteLaws.{local-general, local-inner_notes}
-
--- what stands behind a `[` is read with room for one level less
-pub list-entered : (room : ℕ) (ts us left : List Lexeme) (result : Result (Unit {0}) Refusal) → room ≢ 0 → us ≡ lexemes_behind ts → Passes left result (list_reader (generals (inner_notes (room - 1))) us) → Passes left result (list_at (inner_notes room) ts)
-unfolding inner_notes
-list-entered zero ts us left result some e h = absurd (some refl)
-list-entered (suc room) ts us left result some e h =
-    let less : suc room - 1 ≡ room = omega arith in
-    subst (λ vs. Passes left result (list_reader (generals (inner_notes room)) vs)) e
-    (subst (λ n. Passes left result (list_reader (generals (inner_notes n)) us)) less h)
 
 module _ (room : ℕ) (us ts : List Lexeme) where
   abbrev item : Unit {0} → Reader (Unit {0})

@@ -8,6 +8,7 @@ mod law;
 mod notes;
 mod parser;
 mod refusal;
+mod room;
 mod statement;
 mod terminal;
 mod types;

@@ -5,6 +5,7 @@ ghost use Rattle.thf_parse.specs.Internal.Passes.{Passes};
 
 use crate::cursor::Cursor;
 use crate::refusal::Refusal;
+use crate::room::deeper;
 use thf_grammar::{Mark, Terminal};
 
 /// The arguments of a name, where it has any.
@@ -15,11 +16,9 @@ fn called(room: u32, cursor: &mut Cursor) -> Result<(), Refusal>
 {
     match cursor.found() {
         Terminal::Mark(Mark::Open) => {
-            if room == 0 {
-                return Err(Refusal::TooDeep);
-            }
+            let inner = deeper(room)?;
             cursor.advance();
-            generals(room - 1, cursor)?;
+            generals(inner, cursor)?;
             cursor.expect(Mark::Close)
         }
         _ => Ok(()),
@@ -50,11 +49,9 @@ fn general_data(room: u32, cursor: &mut Cursor) -> Result<(), Refusal>
 fn list(room: u32, cursor: &mut Cursor) -> Result<(), Refusal>
     ensures { Passes cursor.new result (reader.list_at (reader.inner_notes room) cursor.old) }
 {
-    if room == 0 {
-        return Err(Refusal::TooDeep);
-    }
+    let inner = deeper(room)?;
     cursor.advance();
-    listed(room - 1, cursor)
+    listed(inner, cursor)
 }
 
 /// A list, from what stands behind its `[` on.
@@ -82,11 +79,9 @@ fn paired(room: u32, cursor: &mut Cursor) -> Result<(), Refusal>
 {
     match cursor.found() {
         Terminal::Mark(Mark::Colon) => {
-            if room == 0 {
-                return Err(Refusal::TooDeep);
-            }
+            let inner = deeper(room)?;
             cursor.advance();
-            general(room - 1, cursor)
+            general(inner, cursor)
         }
         _ => Ok(()),
     }

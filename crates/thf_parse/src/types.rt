@@ -5,6 +5,7 @@ ghost use Rattle.thf_grammar.specs.View.{the_surface_type};
 
 use crate::cursor::Cursor;
 use crate::refusal::Refusal;
+use crate::room::deeper;
 use std::alloc::Global;
 use thf_grammar::{Mark, SurfaceTy, Terminal};
 
@@ -32,12 +33,10 @@ fn right_type(
 ) -> Result<SurfaceTy, Refusal>
     ensures { ReadsType cursor.new result (reader.right_type (reader.inner_type room) (the_surface_type left) cursor.old) }
 {
-    if room == 0 {
-        return Err(Refusal::TooDeep);
-    }
+    let inner = deeper(room)?;
     let at = cursor.place();
     cursor.advance();
-    let right = type_tree(alloc, room - 1, cursor)?;
+    let right = type_tree(alloc, inner, cursor)?;
     Ok(SurfaceTy::arrow(alloc, at, left, right)?)
 }
 
@@ -77,11 +76,9 @@ fn named_type(alloc: Global, cursor: &mut Cursor) -> Result<SurfaceTy, Refusal>
 fn group_type(alloc: Global, room: u32, cursor: &mut Cursor) -> Result<SurfaceTy, Refusal>
     ensures { ReadsType cursor.new result (reader.group_type (reader.inner_type room) cursor.old) }
 {
-    if room == 0 {
-        return Err(Refusal::TooDeep);
-    }
+    let inner = deeper(room)?;
     cursor.advance();
-    let inside = type_tree(alloc, room - 1, cursor)?;
+    let inside = type_tree(alloc, inner, cursor)?;
     cursor.expect(Mark::Close)?;
     Ok(inside)
 }

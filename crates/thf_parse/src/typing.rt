@@ -8,6 +8,7 @@ use crate::cursor::Cursor;
 use crate::formula::formula;
 use crate::include::named;
 use crate::refusal::Refusal;
+use crate::room::deeper;
 use crate::types::type_tree;
 use std::alloc::Global;
 use thf_grammar::{Body, Mark, Selected, Terminal};
@@ -53,11 +54,9 @@ fn typing(alloc: Global, room: u32, cursor: &mut Cursor) -> Result<Body, Refusal
 fn group_typing(alloc: Global, room: u32, cursor: &mut Cursor) -> Result<Body, Refusal>
     ensures { ReadsBody cursor.new result (reader.group_typing (reader.inner_typing room) cursor.old) }
 {
-    if room == 0 {
-        return Err(Refusal::TooDeep);
-    }
+    let inner = deeper(room)?;
     cursor.advance();
-    let inside = typing(alloc, room - 1, cursor)?;
+    let inside = typing(alloc, inner, cursor)?;
     cursor.expect(Mark::Close)?;
     Ok(inside)
 }

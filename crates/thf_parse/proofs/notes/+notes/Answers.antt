@@ -4,7 +4,7 @@ use Rattle.thf_grammar.specs.declared.terminal.Mark.TheVariants.{Comma}
 use Rattle.thf_parse.specs.Internal.Outcome.{first_terminal, lexemes_behind}
 use Rattle.thf_grammar.specs.Internal.Marks.{is_mark}
 use Rattle.thf_parse.specs.Internal.NoteReader.{passed, all_commas, general, inner_notes}
-use Rattle.thf_parse.proofs.NoteSteps.{list-entered, generals-refused, generals-ended, generals-more, generals-shorter}
+use Rattle.thf_parse.proofs.NoteSteps.{generals-refused, generals-ended, generals-more, generals-shorter}
 use Rattle.thf_parse.proofs.notes.+notes.Goals as goal
 
 pub generals-returns-in-Err : goal.generals-returns-in-Err
@@ -26,6 +26,3 @@ generals-items-preserved t c =
     let some : is_mark Comma (first_terminal c.general.new.cursor) ≡ true = grind (arith, nat_tests) in
     ap (λ us. all_commas (λ _. general (inner_notes c.args.room)) passed us) c.advance.ensures
     ∙ generals-more c.args.room c.items.cursor c.args.cursor.now c.general.new.cursor c.items.invariant c.in-Ok.ensures some
-
-pub list-returns : goal.list-returns
-list-returns t c = list-entered c.args.room c.args.cursor.now c.advance.new.self c.listed.new.cursor c.listed.result c.if-room-eq0.false c.advance.ensures c.listed.ensures

@@ -1,6 +1,0 @@
-use Rattle.std.proofs.Common.{decimal}
-use Rattle.szs_report.proofs.ReportLaws.{demo-pieces}
-use Rattle.szs_report.proofs.report.write_demo.Goals as goal
-
-pub returns : goal.returns
-returns g c = rw (← c.claim_status.ensures, ← c.from.ensures, demo-pieces c.claim_status.result.now c.args.name.now (decimal c.from.result)) c.write_each.ensures
