@@ -223,7 +223,8 @@ class Form(Exception): pass
 class Refused(Exception): pass
 NUMBER, LOWER = r'(0|[1-9][0-9]{0,19})', r'[a-z][A-Za-z0-9_]*'
 NAME = r"(%s|'(?:[ -&(-\[\]-~]|\\['\\])+')" % LOWER
-RULE = r'(?:(False|Refl|Imp[+-]|Bool[+-]|Fun[+-]|All-|Dec)\(N\)|(Close|Mat|Con)\(N,N\)|(All\+)\(N;|(Cho|Des|Cut)\()'.replace('N', NUMBER)
+RULE = re.sub(r'\bN\b', lambda _: NUMBER,
+              r'(?:(False|Refl|Imp[+-]|Bool[+-]|Fun[+-]|All-|Dec)\(N\)|(Close|Mat|Con)\(N,N\)|(All\+)\(N;|(Cho|Des|Cut)\()')
 HEAD = r'#N|(\$w)N|\$(?:f|not|imp)|(\$(?:all|eq|eps|the))\[|'.replace('N', NUMBER) + NAME
 START, END = '% SZS output start Refutation for ', '% SZS output end Refutation for '
 class Line:  # reads one line of a text; `depth` is how many parentheses, brackets and functions are open
