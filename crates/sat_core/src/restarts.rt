@@ -8,7 +8,7 @@ pub struct Restarts {
     met: u64,
 }
 
-const UNIT: u64 = 2048;
+const UNIT: u64 = 1024;
 
 impl Restarts {
     pub fn new() -> Self {
