@@ -6,7 +6,7 @@ use Rattle.std.proofs.lemmas.Bool.{cases_eq}
 use Rattle.std.proofs.lemmas.List.{length-replicate, take_more}
 use Rattle.stt_core.specs.Lambda.{Constant, Lambda}
 use Rattle.term_bank.specs.Terms.{term_at}
-use Rattle.search_spec.specs.Each.{Each}
+use Rattle.tableau_calculus.specs.Each.{Each}
 use Rattle.search_spec.specs.Offers.{has_constant}
 use Rattle.head_offers.specs.Offering.{occurs_among}
 use Rattle.head_offers.specs.Internal.Marks.{is_marked, with_mark, with_marks, any_below, reaches}

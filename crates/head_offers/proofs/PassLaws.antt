@@ -14,7 +14,7 @@ use Rattle.term_bank.specs.declared.node.Node.{Node}
 use Rattle.term_bank.specs.declared.node.Node.TheVariants.{Lam, App}
 use Rattle.term_bank.specs.Terms.{term_at, shape_term, IsBelow}
 use Rattle.term_bank.specs.Shape.{Shape, abstraction, spine}
-use Rattle.search_spec.specs.Each.{Each}
+use Rattle.tableau_calculus.specs.Each.{Each}
 use Rattle.search_spec.specs.Offers.{has_constant, is_name, is_over, has_base}
 use Rattle.head_offers.specs.Internal.Marks.{parts_of}
 use Rattle.head_offers.specs.Internal.Passing.{head_passes, name_in, ranged_in, is_number, has_base_if_any}

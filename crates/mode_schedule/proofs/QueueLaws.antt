@@ -5,7 +5,7 @@ use Rattle.std.proofs.lemmas.Bool.{ne_eqb, eq-eqb}
 use Rattle.stt_core.proofs.ListLaws.{map-append}
 use Rattle.command_queue.specs.declared.entry.Entry.{Entry}
 use Rattle.command_queue.specs.Queue.{Queue, IsBefore, TakesEntry, comes_before}
-use Rattle.search_spec.specs.Each.{Each}
+use Rattle.tableau_calculus.specs.Each.{Each}
 use Rattle.search_spec.specs.Queue.{next_command, without_number}
 use Rattle.prover_state.proofs.EachLaws.{each-from_All, each-left, each-right}
 use Rattle.prover_state.proofs.QueueLaws.{next-is}

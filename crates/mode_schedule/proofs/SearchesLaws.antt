@@ -4,7 +4,7 @@ use Rattle.std.proofs.Common.{sym, ap, subst, ◌∙◌, arith}
 use Rattle.std.specs.List.{All}
 use Rattle.std.proofs.lemmas.List.{length-map}
 use Rattle.std.proofs.lemmas.Option.{same_Some}
-use Rattle.search_spec.specs.Each.{Each}
+use Rattle.tableau_calculus.specs.Each.{Each}
 use Rattle.prover_state.proofs.EachLaws.{each-from_All, each-weaker, each-at}
 use Rattle.mode_file.specs.Given.{IsInRange}
 use Rattle.mode_schedule.specs.Grammar.{most_blocks}

@@ -8,7 +8,7 @@ use Rattle.tableau_calculus.specs.Literals.{Literal, opposite}
 use Rattle.sat_base.specs.declared.literal.SatLit.{SatLit}
 use Rattle.sat_base.specs.Literal.{negated, holds}
 use Rattle.tableau_calculus.specs.Kinds.{has, added}
-use Rattle.search_spec.specs.Each.{Each}
+use Rattle.tableau_calculus.specs.Each.{Each}
 use Rattle.search_spec.specs.Numbered.{numbers, literal_at, IsNumber, AreApart}
 use Rattle.tableau_calculus.specs.Kinds.{formulas}
 use Rattle.search_spec.proofs.NamingLaws.{StandFor, each-joined, has-mapped, added-mapped}

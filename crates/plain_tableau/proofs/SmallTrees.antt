@@ -4,15 +4,17 @@ use Rattle.std.specs.List.{All, AllByRecursion}
 use Rattle.std.proofs.lemmas.List.Elements.{All-contains}
 use Rattle.std.proofs.lemmas.Option.{slice_get-map}
 use Rattle.stt_core.specs.SimpleType.{SimpleType, base, arrow, formula}
-use Rattle.stt_core.specs.Lambda.{Constant, negation, Lambda, bound, constant, lam, app, imp, eq}
+use Rattle.stt_core.specs.Lambda.{Constant, Lambda, bound, constant, lam, app, imp, eq}
 use Rattle.stt_core.specs.Typing.{Scope}
 use Rattle.tableau_calculus.specs.Literals.{Literal, opposite, as_literal}
 use Rattle.tableau_calculus.specs.Witnesses.{Row, with_rows}
 use Rattle.tableau_calculus.specs.Kinds.{added}
-use Rattle.tableau_calculus.specs.Rules.{PlainRule, differ_each, Rule, false_rule, close_rule, refl_rule, imp_pos_rule, imp_neg_rule, bool_pos_rule, bool_neg_rule, fun_pos_rule, fun_neg_rule, all_pos_rule, all_neg_rule, mat_rule, dec_rule, con_rule, cho_rule, des_rule, cut_rule}
+use Rattle.tableau_calculus.specs.Rules.{PlainRule, differ_each, fun_pos, fun_neg, Alone, Rule, alone_rule, close_rule, all_pos_rule, all_neg_rule, mat_rule, dec_rule, con_rule, cho_rule, des_rule, cut_rule}
+use Rattle.tableau_calculus.specs.declared.rule_use.OnePlace.{OnePlace}
 use Rattle.tableau_calculus.specs.declared.refutation.Child.{Child}
 use Rattle.tableau_calculus.specs.declared.refutation.Line.{Line}
 use Rattle.tableau_calculus.specs.declared.refutation.Refutation.{Refutation}
+use Rattle.tableau_calculus.proofs.AloneLaws.{IsOfParts, alone_parts}
 use Rattle.tableau_calculus.proofs.ListLaws.{contains_cases, contains-later, contains-first}
 use Rattle.sat_base.specs.declared.literal.SatLit.{SatLit}
 use Rattle.sat_base.specs.Literal.{negated, same_literal, holds}
@@ -20,7 +22,7 @@ use Rattle.sat_base.proofs.LiteralLaws.{same_literal-true}
 use Rattle.sat_log.specs.declared.log.LogEntry.{LogEntry}
 use Rattle.sat_log.specs.Resolution.{without_literal, each_once}
 use Rattle.search_spec.specs.Clauses.{instance_clauses}
-use Rattle.search_spec.specs.Each.{Each}
+use Rattle.tableau_calculus.specs.Each.{Each}
 use Rattle.search_spec.specs.Numbered.{numbers, literal_at}
 use Rattle.term_bank.specs.Content.{Content, content_scope}
 use Rattle.literal_map.specs.declared.instance.Instance.{Instance as BankInstance}
@@ -138,10 +140,6 @@ differ_singles (arrow a b) [] ts = tt
 differ_singles (arrow a b) (s ∷ ss) [] = tt
 differ_singles (arrow a b) (s ∷ ss) (t ∷ ts) = ((_, refl), differ_singles b ss ts)
 
-literal_small : (t : Lambda) → IsSmallTerm t → IsSmallTerm (as_literal t).atom
-literal_small (app (constant negation) s) h = literal_small s (record { terms = omega (arith, h.terms); types = omega (arith, h.types) })
-literal_small t h = h
-
 -- the sides of an implication and of an equation
 imp_sides : (s t : Lambda) → IsSmallTerm (imp s t) → IsSmallTerm s × IsSmallTerm t
 imp_sides s t h = (record { terms = omega (arith, h.terms); types = omega (arith, h.types) }, record { terms = omega (arith, h.terms); types = omega (arith, h.types) })
@@ -158,23 +156,23 @@ crossed a s t u v h k = (
   record { terms = omega (arith, h.terms, k.terms); types = omega (arith, h.types, k.types) },
 )
 
+small_parts : IsOfParts IsSmallTerm
+small_parts = record {
+  negations = λ s h. record { terms = omega (arith, h.terms); types = omega (arith, h.types) };
+  implications = λ s t h. imp_sides s t h;
+  equations = λ a s t h. eq_sides a s t h;
+}
+
+alone_small : (kind : OnePlace) (l : Literal) (as' : List (List Literal)) → Alone kind l as' → (picked : List Literal) → PicksLiterals picked as' → HasSmall l → Each HasSmall picked → Each (Each HasSmall) as'
+alone_small kind l as' fits picked picks h k =
+    alone_parts IsSmallTerm small_parts (λ bs. PicksLiterals picked bs → Each (Each HasSmall) bs) (λ bs each p. each)
+    (λ a b s t g. ((λ p. singles_small (fun_pos a b s t) ((_, refl), tt) picked p k), (λ p. singles_small (fun_neg a b s t) ((_, refl), tt) picked p k)))
+    kind l as' fits h picks
+
 -- where the principals and a literal from each alternative are small, all literals of the alternatives are
 rule_small : (scope : Scope) (rows : List Row) (rule : PlainRule) (ps : List Literal) (as' : List (List Literal)) → Rule scope rows rule ps as' → (picked : List Literal) → PicksLiterals picked as' → Each HasSmall ps → Each HasSmall picked → Each (Each HasSmall) as'
-rule_small scope rows rule ps as' (false_rule i) picked picks h k = tt
+rule_small scope rows rule ps as' (alone_rule i kind l alternatives fits) picked picks h k = alone_small kind l as' fits picked picks h.0 k
 rule_small scope rows rule ps as' (close_rule i j l) picked picks h k = tt
-rule_small scope rows rule ps as' (refl_rule i a s) picked picks h k = tt
-rule_small scope rows rule ps as' (imp_pos_rule i s t) picked picks h k = singles_small as' ((_, refl), ((_, refl), tt)) picked picks k
-rule_small scope rows rule ps as' (imp_neg_rule i s t) picked picks h k =
-    let sides = imp_sides s t h.0 in
-    ((literal_small s sides.0, (literal_small t sides.1, tt)), tt)
-rule_small scope rows rule ps as' (bool_pos_rule i s t) picked picks h k =
-    let sides = eq_sides formula s t h.0 in
-    ((literal_small s sides.0, (literal_small t sides.1, tt)), ((literal_small s sides.0, (literal_small t sides.1, tt)), tt))
-rule_small scope rows rule ps as' (bool_neg_rule i s t) picked picks h k =
-    let sides = eq_sides formula s t h.0 in
-    ((literal_small s sides.0, (literal_small t sides.1, tt)), ((literal_small s sides.0, (literal_small t sides.1, tt)), tt))
-rule_small scope rows rule ps as' (fun_pos_rule i a b s t) picked picks h k = singles_small as' ((_, refl), tt) picked picks k
-rule_small scope rows rule ps as' (fun_neg_rule i a b s t) picked picks h k = singles_small as' ((_, refl), tt) picked picks k
 rule_small scope rows rule ps as' (all_pos_rule i a f u c) picked picks h k = singles_small as' ((_, refl), tt) picked picks k
 rule_small scope rows rule ps as' (all_neg_rule i n a f at) picked picks h k = singles_small as' ((_, refl), tt) picked picks k
 rule_small scope rows rule ps as' (mat_rule i j c a s t ss ts d e) picked picks h k = singles_small as' (differ_singles a (s ∷ ss) (t ∷ ts)) picked picks k

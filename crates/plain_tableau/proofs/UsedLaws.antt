@@ -16,7 +16,7 @@ use Rattle.sat_base.specs.declared.literal.SatLit.{SatLit}
 use Rattle.sat_base.specs.Literal.{IsOver}
 use Rattle.sat_log.specs.declared.log.LogEntry.{LogEntry}
 use Rattle.search_spec.specs.Clauses.{instance_clauses}
-use Rattle.search_spec.specs.Each.{Each}
+use Rattle.tableau_calculus.specs.Each.{Each}
 use Rattle.search_spec.specs.Numbered.{numbers, literal_at, IsNumber, AreApart}
 use Rattle.tableau_calculus.specs.Kinds.{formulas}
 use Rattle.search_spec.proofs.NamingLaws.{instance_clauses-mapped}

@@ -3,7 +3,7 @@ use Rattle.std.specs.Prelude.{ℕ, List, map}
 use Rattle.stt_core.specs.Lambda.{Lambda}
 use Rattle.tableau_calculus.specs.Literals.{Literal}
 use Rattle.sat_base.specs.declared.literal.SatLit.{SatLit}
-use Rattle.search_spec.specs.Each.{Each}
+use Rattle.tableau_calculus.specs.Each.{Each}
 use Rattle.search_spec.specs.Numbered.{numbers, IsNumber, AreApart}
 use Rattle.tableau_calculus.specs.Kinds.{formulas}
 use Rattle.rebuild_spec.specs.Input.{literals_of}

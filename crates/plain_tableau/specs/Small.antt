@@ -5,7 +5,7 @@ use Rattle.stt_core.specs.Lambda.{Lambda}
 use Rattle.tableau_calculus.specs.Witnesses.{Row}
 use Rattle.tableau_calculus.specs.declared.refutation.Refutation.{Refutation}
 use Rattle.sat_base.specs.declared.literal.SatLit.{SatLit}
-use Rattle.search_spec.specs.Each.{Each}
+use Rattle.tableau_calculus.specs.Each.{Each}
 use Rattle.search_spec.specs.Numbered.{numbers, literal_at}
 use Rattle.refute_print.specs.Sizes.{IsSmallTerm}
 use Rattle.small_rebuilt.specs.Small.{TakesSmall, AreTermsSmall}

@@ -11,7 +11,7 @@ use Rattle.term_bank.specs.Content.{Content, HasTerm, Grows}
 use Rattle.term_bank.specs.Terms.{term_at, IsTypedTerm}
 use Rattle.term_bank.proofs.GrowLaws.{grown_term, has_at, has_within}
 use Rattle.instantiate.specs.Listing.{Listing, ids_of}
-use Rattle.search_spec.specs.Each.{Each}
+use Rattle.tableau_calculus.specs.Each.{Each}
 use Rattle.mode_file.specs.declared.Mode.{Mode}
 use Rattle.search_spec.specs.State.{State, Typed}
 use Rattle.search_spec.specs.Terms.{first_terms, with_term, with_terms}

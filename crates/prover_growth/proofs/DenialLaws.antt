@@ -31,7 +31,7 @@ use Rattle.witness_names.specs.Rows.{binder_of, row_of, rows_of, with_predicate}
 use Rattle.tableau_rules.specs.Changes.{Widens, HasWitness}
 use Rattle.tableau_rules.specs.Uses.{IsInstanceBy}
 use Rattle.refute_print.specs.Sizes.{IsSmallTerm}
-use Rattle.search_spec.specs.Each.{Each}
+use Rattle.tableau_calculus.specs.Each.{Each}
 use Rattle.search_spec.specs.Witness.{same_row, witness_of}
 use Rattle.search_spec.proofs.NamingLaws.{either}
 use Rattle.search_spec.proofs.RowLaws.{row_at, no_row}

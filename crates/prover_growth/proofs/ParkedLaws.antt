@@ -4,7 +4,7 @@ use Rattle.std.proofs.Common.{sym, ap, subst, ◌∙◌, eqb-true}
 use Rattle.stt_core.specs.SimpleType.{base, formula}
 use Rattle.stt_core.specs.Lambda.{Lambda}
 use Rattle.command_queue.specs.Queue.{Queue}
-use Rattle.search_spec.specs.Each.{Each}
+use Rattle.tableau_calculus.specs.Each.{Each}
 use Rattle.search_spec.specs.Partial.{Hole, hole, first_hole}
 use Rattle.search_spec.specs.State.{Sketch, grow}
 use Rattle.search_spec.specs.Witness.{is_hole_of, has_hole_of}

@@ -8,7 +8,7 @@ use Rattle.stt_core.specs.SimpleType.{SimpleType, base, target}
 use Rattle.stt_core.proofs.ListLaws.{map-append}
 use Rattle.tableau_calculus.specs.Witnesses.{Row}
 use Rattle.instantiate.specs.Listing.{Listing, ids_of, with_listed}
-use Rattle.search_spec.specs.Each.{Each}
+use Rattle.tableau_calculus.specs.Each.{Each}
 use Rattle.search_spec.specs.Heads.{places_to}
 use Rattle.search_spec.specs.Witness.{same_row}
 use Rattle.prover_growth.specs.Internal.Denials.{with_row}

@@ -10,7 +10,7 @@ use Rattle.tableau_calculus.specs.Witnesses.{Row, with_rows}
 use Rattle.sat_base.specs.declared.literal.SatLit.{SatLit}
 use Rattle.command_queue.specs.Queue.{Queue}
 use Rattle.command_queue.specs.declared.entry.Entry.{Entry}
-use Rattle.search_spec.specs.Each.{Each}
+use Rattle.tableau_calculus.specs.Each.{Each}
 use Rattle.search_spec.specs.Heads.{places_to}
 use Rattle.search_spec.specs.Partners.{has_equal_sides}
 use Rattle.search_spec.specs.State.{State, Sketch}

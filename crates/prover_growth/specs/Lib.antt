@@ -4,7 +4,7 @@ pub use Rattle.instantiate.specs.Listing
 pub use Rattle.literal_map.specs.Atoms
 pub use Rattle.prover_state.specs.Lasting
 pub use Rattle.search_spec.specs.Commands
-pub use Rattle.search_spec.specs.Each
+pub use Rattle.tableau_calculus.specs.Each
 pub use Rattle.search_spec.specs.Heads
 pub use Rattle.search_spec.specs.Offers
 pub use Rattle.search_spec.specs.Partial

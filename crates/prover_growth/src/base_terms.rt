@@ -5,7 +5,7 @@ ghost use Rattle.stt_core.specs.Lambda.{falsity, choice, constant, lam, app, neg
 ghost use Rattle.stt_core.specs.View.{the_type};
 ghost use Rattle.term_bank.specs.Content.{HasTerm};
 ghost use Rattle.term_bank.specs.Terms.{term_at};
-ghost use Rattle.search_spec.specs.Each.{Each};
+ghost use Rattle.tableau_calculus.specs.Each.{Each};
 ghost use Rattle.search_spec.specs.Preparing.{with_beginning};
 ghost use Rattle.search_spec.specs.Terms.{first_terms, with_terms};
 ghost use Rattle.prover_state.specs.Lasting.{declarations_of, lasting};

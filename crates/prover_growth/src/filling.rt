@@ -4,7 +4,7 @@ ghost use Rattle.command_queue.specs.Queue.{Queue};
 ghost use Rattle.instantiate.specs.Internal.Blanks.{term_of};
 ghost use Rattle.instantiate.specs.declared.growing.Grown.TheVariants.{Term};
 ghost use Rattle.search_spec.specs.Commands.{with_command, growth_by};
-ghost use Rattle.search_spec.specs.Each.{Each};
+ghost use Rattle.tableau_calculus.specs.Each.{Each};
 ghost use Rattle.search_spec.specs.Partial.{first_hole};
 ghost use Rattle.search_spec.specs.State.{grow};
 ghost use Rattle.search_spec.specs.Terms.{with_term};

@@ -11,7 +11,7 @@ use Rattle.tableau_calculus.specs.Literals.{Literal}
 use Rattle.sat_base.specs.declared.literal.Var.{Var}
 use Rattle.sat_base.specs.declared.literal.SatLit.{SatLit}
 use Rattle.sat_core.specs.Solver.{AreAmong}
-use Rattle.search_spec.specs.Each.{Each}
+use Rattle.tableau_calculus.specs.Each.{Each}
 use Rattle.search_spec.specs.Numbered.{atom_at, literal_at, IsNumber, AreApart}
 use Rattle.search_spec.proofs.UnsatLaws.{same_atom}
 use Rattle.search_spec.specs.State.{Setting}

@@ -11,7 +11,7 @@ use Rattle.tableau_calculus.specs.declared.refutation.Refutation.{Refutation}
 use Rattle.sat_base.specs.declared.literal.SatLit.{SatLit}
 use Rattle.sat_base.specs.Literal.{holds}
 use Rattle.sat_log.specs.Propagation.{ReachesFalse}
-use Rattle.search_spec.specs.Each.{Each}
+use Rattle.tableau_calculus.specs.Each.{Each}
 use Rattle.search_spec.specs.Numbered.{IsNumber}
 use Rattle.search_spec.specs.State.{State}
 use Rattle.search_spec.specs.After.{state_after}

@@ -12,7 +12,7 @@ use Rattle.sat_base.specs.Literal.{negated, same_literal, holds}
 use Rattle.sat_base.proofs.LiteralLaws.{same_literal-refl, same_literal-true, holds-append, All-from_held}
 use Rattle.sat_log.specs.Propagation.{IsUnitClause, IsFalseIn, Propagates, IsPropagation, ReachesFalse as NumbersReachFalse}
 use Rattle.sat_laws.proofs.TrailLaws.{Propagates-push}
-use Rattle.search_spec.specs.Each.{Each}
+use Rattle.tableau_calculus.specs.Each.{Each}
 use Rattle.search_spec.specs.Numbered.{literal_at, IsNumber, AreApart}
 use Rattle.search_spec.specs.Unsatisfiable.{Clause}
 use Rattle.rebuild_spec.specs.Input.{literals_of}

@@ -24,7 +24,7 @@ use Rattle.sat_log.specs.Chains.{results, IsLogOver}
 use Rattle.sat_log.specs.Propagation.{ReachesFalse}
 use Rattle.sat_core.specs.Solver.{SolverState, learned_from, learned, OccurIn, WereLearned, IsSound}
 use Rattle.term_bank.specs.Content.{content_scope}
-use Rattle.search_spec.specs.Each.{Each}
+use Rattle.tableau_calculus.specs.Each.{Each}
 use Rattle.literal_map.specs.Atoms.{bank_literal}
 use Rattle.literal_map.specs.Numbers.{UseByNumbers}
 use Rattle.literal_map.specs.declared.instance.Instance.{Instance}

@@ -14,7 +14,7 @@ use Rattle.term_bank.specs.Terms.{term_at}
 use Rattle.literal_map.specs.Atoms.{bank_literal}
 use Rattle.literal_map.specs.Numbers.{UseByNumbers}
 use Rattle.command_queue.specs.Queue.{Queue}
-use Rattle.search_spec.specs.Each.{Each}
+use Rattle.tableau_calculus.specs.Each.{Each}
 use Rattle.search_spec.specs.Numbered.{literal_at}
 use Rattle.tableau_clauses.specs.Table.{EachComes}
 use Rattle.refute_print.specs.Sizes.{IsSmallTerm, IsSmall}

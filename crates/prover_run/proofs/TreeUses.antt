@@ -14,7 +14,7 @@ use Rattle.tableau_calculus.proofs.ListLaws.{contains_cases, contains-first, con
 use Rattle.sat_base.specs.declared.literal.SatLit.{SatLit}
 use Rattle.sat_base.specs.Literal.{IsOver}
 use Rattle.sat_log.specs.declared.log.LogEntry.{LogEntry}
-use Rattle.search_spec.specs.Each.{Each}
+use Rattle.tableau_calculus.specs.Each.{Each}
 use Rattle.search_spec.specs.Numbered.{numbers, literal_at, IsNumber, AreApart}
 use Rattle.search_spec.proofs.NamingLaws.{added-mapped}
 use Rattle.search_spec.proofs.UnsatLaws.{numbers_stand}

@@ -10,7 +10,7 @@ use Rattle.sat_base.specs.Literal.{HoldsNoVariableTwice, IsAlike}
 use Rattle.sat_base.specs.Truth.{Implies}
 use Rattle.sat_log.specs.Propagation.{ReachesFalse, AreFailingDecisions}
 use Rattle.sat_core.specs.Solver.{AreAmong, OccurIn, WereLearned}
-use Rattle.search_spec.specs.Each.{Each}
+use Rattle.tableau_calculus.specs.Each.{Each}
 use Rattle.search_spec.specs.Numbered.{literal_at, IsNumber, AreApart}
 use Rattle.search_spec.specs.Unsatisfiable.{Clause}
 

@@ -11,7 +11,7 @@ pub use Rattle.sat_core.specs.Solver
 pub use Rattle.sat_log.specs.Chains
 pub use Rattle.sat_log.specs.Propagation
 pub use Rattle.search_spec.specs.After
-pub use Rattle.search_spec.specs.Each
+pub use Rattle.tableau_calculus.specs.Each
 pub use Rattle.search_spec.specs.Numbered
 pub use Rattle.search_spec.specs.Result
 pub use Rattle.search_spec.specs.State

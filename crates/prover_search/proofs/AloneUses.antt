@@ -3,13 +3,13 @@ use Rattle.std.specs.Prelude.{◌≡◌, ◌&&◌, ℕ, suc, true, [], ◌∷◌
 use Rattle.std.proofs.Common.{sym, ap, ap₂, ◌∙◌, subst}
 use Rattle.std.proofs.lemmas.Bool.{and_parts}
 use Rattle.stt_core.specs.SimpleType.{SimpleType, base, arrow, formula}
-use Rattle.stt_core.specs.Lambda.{falsity, Lambda, constant, applied, imp, eq}
+use Rattle.stt_core.specs.Lambda.{Lambda, constant, applied, eq}
 use Rattle.stt_core.specs.Typing.{Scope, IsScope, type_of}
 use Rattle.stt_core.specs.Canonical.{IsCanonical}
 use Rattle.tableau_calculus.specs.Literals.{Literal, plus, minus}
-use Rattle.tableau_calculus.specs.Rules.{false_rule, refl_rule, imp_pos_rule, imp_neg_rule, bool_pos_rule, bool_neg_rule, fun_pos_rule, fun_neg_rule, dec_rule, Alternatives, imp_pos, imp_neg, bool_pos, bool_neg, fun_pos, fun_neg, differ}
+use Rattle.tableau_calculus.specs.Rules.{Alone, refl_alone, bool_pos_alone, bool_neg_alone, fun_pos_alone, fun_neg_alone, alone_rule, dec_rule, Alternatives, bool_pos, bool_neg, fun_pos, fun_neg, differ}
 use Rattle.tableau_calculus.specs.declared.rule_use.OnePlace.{OnePlace}
-use Rattle.tableau_calculus.specs.declared.rule_use.OnePlace.TheVariants.{False, Refl, ImpPos, ImpNeg, BoolPos, BoolNeg, FunPos, FunNeg, Dec}
+use Rattle.tableau_calculus.specs.declared.rule_use.OnePlace.TheVariants.{Refl, BoolPos, BoolNeg, FunPos, FunNeg, Dec}
 use Rattle.tableau_calculus.specs.declared.rule_use.RuleUse.TheVariants.{AtOne}
 use Rattle.tableau_calculus.proofs.EquationLaws.{eq_canonical}
 use Rattle.sat_base.specs.declared.literal.SatLit.{SatLit}
@@ -39,29 +39,23 @@ module _ (g : Basis) (lit : SatLit) where
   abbrev pub Takes : OnePlace → Alternatives → Type 0
   Takes rule as' = IsInstanceBy g.bank g.lits (rows_in g) (AtOne rule lit) as'
 
-  pub false-takes : l_at ≡ plus (constant falsity) → Takes False []
-  false-takes e = record { principals = plus (constant falsity) ∷ []; at_places = (ap Some e, tt); fits = false_rule 0 }
+  pub alone-takes : (kind : OnePlace) (k : Literal) (as' : Alternatives) → Alone kind k as' → l_at ≡ k → Takes kind as'
+  alone-takes kind k as' fits e = record { principals = k ∷ []; at_places = (ap Some e, tt); fits = alone_rule 0 kind k as' fits }
 
   pub refl-takes : (a : SimpleType) (s : Lambda) → l_at ≡ minus (eq a s s) → Takes Refl []
-  refl-takes a s e = record { principals = minus (eq a s s) ∷ []; at_places = (ap Some e, tt); fits = refl_rule 0 a s }
-
-  pub imp_pos-takes : (s t : Lambda) → l_at ≡ plus (imp s t) → Takes ImpPos (imp_pos s t)
-  imp_pos-takes s t e = record { principals = plus (imp s t) ∷ []; at_places = (ap Some e, tt); fits = imp_pos_rule 0 s t }
-
-  pub imp_neg-takes : (s t : Lambda) → l_at ≡ minus (imp s t) → Takes ImpNeg (imp_neg s t)
-  imp_neg-takes s t e = record { principals = minus (imp s t) ∷ []; at_places = (ap Some e, tt); fits = imp_neg_rule 0 s t }
+  refl-takes a s e = alone-takes Refl (minus (eq a s s)) [] (refl_alone a s) e
 
   pub bool_pos-takes : (s t : Lambda) → l_at ≡ plus (eq formula s t) → Takes BoolPos (bool_pos s t)
-  bool_pos-takes s t e = record { principals = plus (eq formula s t) ∷ []; at_places = (ap Some e, tt); fits = bool_pos_rule 0 s t }
+  bool_pos-takes s t e = alone-takes BoolPos (plus (eq formula s t)) (bool_pos s t) (bool_pos_alone s t) e
 
   pub bool_neg-takes : (s t : Lambda) → l_at ≡ minus (eq formula s t) → Takes BoolNeg (bool_neg s t)
-  bool_neg-takes s t e = record { principals = minus (eq formula s t) ∷ []; at_places = (ap Some e, tt); fits = bool_neg_rule 0 s t }
+  bool_neg-takes s t e = alone-takes BoolNeg (minus (eq formula s t)) (bool_neg s t) (bool_neg_alone s t) e
 
   pub fun_pos-takes : (a b : SimpleType) (s t : Lambda) → l_at ≡ plus (eq (arrow a b) s t) → Takes FunPos (fun_pos a b s t)
-  fun_pos-takes a b s t e = record { principals = plus (eq (arrow a b) s t) ∷ []; at_places = (ap Some e, tt); fits = fun_pos_rule 0 a b s t }
+  fun_pos-takes a b s t e = alone-takes FunPos (plus (eq (arrow a b) s t)) (fun_pos a b s t) (fun_pos_alone a b s t) e
 
   pub fun_neg-takes : (a b : SimpleType) (s t : Lambda) → l_at ≡ minus (eq (arrow a b) s t) → Takes FunNeg (fun_neg a b s t)
-  fun_neg-takes a b s t e = record { principals = minus (eq (arrow a b) s t) ∷ []; at_places = (ap Some e, tt); fits = fun_neg_rule 0 a b s t }
+  fun_neg-takes a b s t e = alone-takes FunNeg (minus (eq (arrow a b) s t)) (fun_neg a b s t) (fun_neg_alone a b s t) e
 
   -- the sides of a negated equation, which have one compared head
   module _ (good : IsBasis g) (number : IsNumberIn g.lits lit) (over : IsScope (scope_by g)) where

@@ -11,6 +11,7 @@ mod BasisLaws
 pub mod PreparedLaws
 pub mod SearchLaws
 mod ShapedLaws
+mod ConnectiveHeads
 mod AloneUses
 mod WorkLaws
 mod AdvanceLaws

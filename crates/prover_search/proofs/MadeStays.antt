@@ -5,13 +5,13 @@ use Rattle.stt_core.specs.Typing.{Scope}
 use Rattle.stt_core.proofs.ListLaws.{map-append, slice_get-append}
 use Rattle.tableau_calculus.specs.Literals.{Literal}
 use Rattle.tableau_calculus.specs.Witnesses.{Row}
-use Rattle.tableau_calculus.specs.Rules.{PlainRule, Rule, false_rule, close_rule, refl_rule, imp_pos_rule, imp_neg_rule, bool_pos_rule, bool_neg_rule, fun_pos_rule, fun_neg_rule, all_pos_rule, all_neg_rule, mat_rule, dec_rule, con_rule, cho_rule, des_rule, cut_rule}
+use Rattle.tableau_calculus.specs.Rules.{PlainRule, Rule, alone_rule, close_rule, all_pos_rule, all_neg_rule, mat_rule, dec_rule, con_rule, cho_rule, des_rule, cut_rule}
 use Rattle.tableau_calculus.specs.RuleUses.{principals_of, EachPart}
 use Rattle.tableau_calculus.specs.declared.rule_use.RuleUse.TheVariants.{AtOne, AtTwo, AllPos, WithPredicate, Cut}
 use Rattle.tableau_calculus.proofs.UseLaws.{each_part-more}
 use Rattle.sat_base.specs.declared.literal.SatLit.{SatLit}
 use Rattle.refute_print.specs.Sizes.{IsSmallTerm}
-use Rattle.search_spec.specs.Each.{Each}
+use Rattle.tableau_calculus.specs.Each.{Each}
 use Rattle.term_bank.specs.Content.{Content}
 use Rattle.term_bank.specs.Terms.{term_at}
 use Rattle.literal_map.specs.Atoms.{bank_literal}
@@ -32,15 +32,8 @@ use Rattle.prover_search.specs.Internal.Developing.{IsWider}
 
 -- with further rows a rule has the instances that it had
 rule_rows : (scope : Scope) (rows more : List Row) (rule : PlainRule) (ps : List Literal) (as' : List (List Literal)) → Rule scope rows rule ps as' → Rule scope (rows ++ more) rule ps as'
-rule_rows scope rows more _ _ _ (false_rule i) = false_rule i
+rule_rows scope rows more _ _ _ (alone_rule i kind l as' h) = alone_rule i kind l as' h
 rule_rows scope rows more _ _ _ (close_rule i j l) = close_rule i j l
-rule_rows scope rows more _ _ _ (refl_rule i a u) = refl_rule i a u
-rule_rows scope rows more _ _ _ (imp_pos_rule i u t) = imp_pos_rule i u t
-rule_rows scope rows more _ _ _ (imp_neg_rule i u t) = imp_neg_rule i u t
-rule_rows scope rows more _ _ _ (bool_pos_rule i u t) = bool_pos_rule i u t
-rule_rows scope rows more _ _ _ (bool_neg_rule i u t) = bool_neg_rule i u t
-rule_rows scope rows more _ _ _ (fun_pos_rule i a b u t) = fun_pos_rule i a b u t
-rule_rows scope rows more _ _ _ (fun_neg_rule i a b u t) = fun_neg_rule i a b u t
 rule_rows scope rows more _ _ _ (all_pos_rule i a f u c) = all_pos_rule i a f u c
 rule_rows scope rows more _ _ _ (all_neg_rule i k a f g) = all_neg_rule i k a f (slice_get-append rows more k (record { type = a; predicate = f }) g)
 rule_rows scope rows more _ _ _ (mat_rule i j c a u t us ts d e) = mat_rule i j c a u t us ts d e

@@ -3,13 +3,13 @@ use Rattle.std.specs.Prelude.{◌≡◌, ◌≤◌, ◌+◌, ◌*◌, ◌==◌, 
 use Rattle.std.specs.List.{list_any, list_all, flat_map}
 use Rattle.std.proofs.Common.{ap, subst, arith}
 use Rattle.stt_core.specs.SimpleType.{SimpleType, base, arrow, formula, target}
-use Rattle.stt_core.specs.Lambda.{falsity, implication, all, equality, Lambda, constant, app, imp, eq, every}
+use Rattle.stt_core.specs.Lambda.{all, equality, Lambda, constant, app, eq, every}
 use Rattle.stt_core.specs.SameTerm.{same_term}
 use Rattle.stt_core.specs.Typing.{type_of}
 use Rattle.tableau_calculus.specs.Literals.{Literal, plus, minus}
 use Rattle.tableau_calculus.specs.Kinds.{has, formulas}
 use Rattle.tableau_calculus.specs.Witnesses.{Row}
-use Rattle.search_spec.specs.Each.{Each}
+use Rattle.tableau_calculus.specs.Each.{Each}
 use Rattle.search_spec.specs.Shallow.{is_shallow, is_shallow_literal}
 use Rattle.search_spec.specs.Clauses.{instance_clauses, with_clauses}
 use Rattle.search_spec.specs.Heads.{heads_for}
@@ -19,7 +19,8 @@ use Rattle.command_queue.specs.declared.entry.Entry.{Entry}
 use Rattle.command_queue.specs.Queue.{comes_before}
 use Rattle.search_spec.specs.Queue.{new_entries, first_waiting, next_command}
 use Rattle.search_spec.specs.State.{State, Setting, Sketch, Command, process, mate, confront, inst, choose, describe, grow, delay, due, with_commands, scope_in}
-use Rattle.tableau_calculus.specs.Rules.{Alternatives, imp_pos, imp_neg, bool_pos, bool_neg, fun_pos, fun_neg, all_pos, all_neg, differ, con, cho, des}
+use Rattle.tableau_calculus.specs.declared.rule_use.OnePlace.{OnePlace}
+use Rattle.tableau_calculus.specs.Rules.{Alternatives, bool_pos, bool_neg, fun_pos, fun_neg, all_pos, all_neg, differ, con, cho, des}
 use Rattle.search_spec.specs.Instances.{with_literal, with_literals, with_instance}
 use Rattle.search_spec.specs.Terms.{terms_of, universals, with_term, with_terms, with_opening, first_terms}
 use Rattle.search_spec.specs.Offers.{is_prepared, early_terms, offered_witness, offered_sides, offered_heads}
@@ -27,7 +28,7 @@ use Rattle.search_spec.specs.Preparing.{with_beginning, with_preparation}
 use Rattle.search_spec.specs.Partners.{matings, confrontations}
 use Rattle.search_spec.specs.Selections.{Selection, by_choice, by_description, selections_in, with_selection, with_selections}
 use Rattle.search_spec.specs.Witness.{same_row, witness_of, has_hole_of, with_new_witness, with_witness, with_denied}
-use Rattle.search_spec.specs.Processing.{with_decomposition, with_confrontations, with_equation, with_universal, with_matings, with_rules, with_processing}
+use Rattle.search_spec.specs.Processing.{with_decomposition, with_confrontations, with_equation, with_universal, with_matings, connective_rule, with_connective, with_rules, with_processing}
 use Rattle.search_spec.specs.Commands.{with_confrontation, with_instantiation, with_growth, growth_by, with_command}
 use Rattle.search_spec.specs.After.{nothing_yet, starting_state, with_taken, after_command, next_state, state_after}
 use Rattle.search_spec.proofs.NamingLaws.{each-joined, pick_good}
@@ -150,17 +151,18 @@ module _ (setting : Setting) (short : AreShort setting) (n : ℕ) where
       let k = witnessed-paced a f s g in
       pick_good Good (list_any (same_row r) s.rows) done (with_terms setting.mode a us done) k (with_terms-paced a us done k)
 
+  connected-paced : (l : Literal) (o : Option (OnePlace × Alternatives)) (s : State) → Good s → Good (with_connective setting l o s)
+  connected-paced l (Some rule) s g = with_instance-paced (l ∷ []) rule.1 s g
+  connected-paced l None s g = mated-paced l s g
+
   worked-paced : (sign : Bool) (t : Lambda) (s : State) → Good s → Good (with_rules setting sign t s)
-  worked-paced true (constant falsity) s g = with_instance-paced (plus (constant falsity) ∷ []) [] s g
-  worked-paced true (app (app (constant implication) u) v) s g = with_instance-paced (plus (imp u v) ∷ []) (imp_pos u v) s g
-  worked-paced false (app (app (constant implication) u) v) s g = with_instance-paced (minus (imp u v) ∷ []) (imp_neg u v) s g
   worked-paced true (app (app (constant (equality a)) u) v) s g = equated-paced a true u v s g
   worked-paced false (app (app (constant (equality a)) u) v) s g =
       pick_good Good (same_term u v) (with_instance setting.mode (minus (eq a u v) ∷ []) [] s) (with_equation setting a false u v s)
       (with_instance-paced (minus (eq a u v) ∷ []) [] s g) (equated-paced a false u v s g)
   worked-paced true (app (constant (all a)) f) s g = quantified-paced a f s g
   worked-paced false (app (constant (all a)) f) s g = denied-paced a f s g
-  worked-paced sign t s g = mated-paced (record { positive = sign; atom = t }) s g
+  worked-paced sign t s g = connected-paced (record { positive = sign; atom = t }) (connective_rule t sign) s g
 
   processed-paced : (l : Literal) (s : State) → Good s → Good (with_processing setting l s)
   processed-paced l s g =

@@ -10,7 +10,7 @@ use Rattle.mode_file.specs.Given.{IsInRange}
 use Rattle.command_queue.specs.declared.entry.Entry.{Entry}
 use Rattle.command_queue.specs.Queue.{Queue, comes_before}
 use Rattle.search_spec.specs.Defaults.{default_delay}
-use Rattle.search_spec.specs.Each.{Each}
+use Rattle.tableau_calculus.specs.Each.{Each}
 use Rattle.search_spec.specs.Unsatisfiable.{Unsatisfiable}
 use Rattle.search_spec.specs.Queue.{first_waiting, next_command, without_number}
 use Rattle.search_spec.specs.State.{State, Setting, Command as Meant, process, mate, confront, inst, choose, describe, grow, kind_delay, brings_default, delay, moment_by}

@@ -9,7 +9,7 @@ use Rattle.tableau_calculus.specs.Literals.{IsBranch}
 use Rattle.tableau_calculus.specs.Start.{start}
 use Rattle.tableau_calculus.proofs.StartMeets.{start_typed}
 use Rattle.refute_print.specs.Sizes.{nesting}
-use Rattle.search_spec.specs.Each.{Each}
+use Rattle.tableau_calculus.specs.Each.{Each}
 use Rattle.type_bound.specs.Modest.{IsModestProblem}
 use Rattle.term_bank.specs.Content.{Content}
 use Rattle.prover_state.specs.Internal.Standing.{without_witnesses}

@@ -4,7 +4,7 @@ use Rattle.std.proofs.Common.{sym, ap, ap₂, ◌∙◌, subst, arith, true≢fa
 use Rattle.std.proofs.lemmas.Bool.{false_from_ne_true}
 use Rattle.std.proofs.lemmas.Option.{same_Some}
 use Rattle.stt_core.specs.SimpleType.{SimpleType, base, arrow, formula}
-use Rattle.stt_core.specs.Lambda.{name, witness, falsity, negation, implication, all, equality, choice, description, Lambda, bound, constant, lam, app, imp, eq, every, applied}
+use Rattle.stt_core.specs.Lambda.{name, witness, falsity, negation, implication, all, equality, choice, description, Lambda, bound, constant, lam, app, eq, every, applied}
 use Rattle.stt_core.specs.SameTerm.{same_term}
 use Rattle.stt_core.proofs.SpineLaws.{IsAtom}
 use Rattle.stt_core.proofs.SameTerms.{same_term-of, same_term-true}
@@ -12,36 +12,34 @@ use Rattle.tableau_calculus.specs.Literals.{plus, minus}
 use Rattle.search_spec.specs.Partners.{has_equal_sides}
 use Rattle.search_spec.specs.Spine.{head_of, has_compared_head, is_application, is_spine, same_head}
 use Rattle.search_spec.specs.State.{State, Setting}
-use Rattle.search_spec.specs.Processing.{with_rules, with_matings}
+use Rattle.search_spec.specs.Processing.{connective_rule, with_connective, with_rules}
 use Rattle.prover_state.specs.Internal.Pending.{equation_type}
 use Rattle.prover_state.specs.Internal.Selecting.{term_parts}
 use Rattle.prover_state.specs.Internal.Shapes.{IsBaseEquation}
 use Rattle.prover_search.specs.Internal.Working.{equation_shape, shape_of, IsEquated}
 use Rattle.prover_search.specs.declared.shape.Shape.{Shape}
-use Rattle.prover_search.specs.declared.shape.Shape.TheVariants.{Falsity, Implication, FormulaEquation, FunctionEquation, BaseEquation, Quantified, Other}
+use Rattle.prover_search.specs.declared.shape.Shape.TheVariants.{FormulaEquation, FunctionEquation, BaseEquation, Quantified, Other}
 use Rattle.prover_search.proofs.RuleUses.{head_of-applied}
 
 -- WHAT A FORMULA OF A SHAPE IS
 
--- for a literal with this atom no more is done than that it is mated
-abbrev pub IsMated : Lambda → Type 0
-IsMated t = (setting : Setting) (st : State) → (with_rules setting true t st ≡ with_matings setting (plus t) st) × (with_rules setting false t st ≡ with_matings setting (minus t) st)
+-- for a literal with this atom is done what its connective asks for
+abbrev pub IsConnected : Lambda → Type 0
+IsConnected t = (setting : Setting) (st : State) → (with_rules setting true t st ≡ with_connective setting (plus t) (connective_rule t true) st) × (with_rules setting false t st ≡ with_connective setting (minus t) (connective_rule t false) st)
 
 abbrev pub IsShaped : Lambda → Shape → Type 0
-IsShaped t Falsity = t ≡ constant falsity
-IsShaped t Implication = (s : Lambda) × (u : Lambda) × (t ≡ imp s u)
 IsShaped t FormulaEquation = (s : Lambda) × (u : Lambda) × (t ≡ eq formula s u)
 IsShaped t FunctionEquation = (a : SimpleType) × (b : SimpleType) × (s : Lambda) × (u : Lambda) × (t ≡ eq (arrow a b) s u)
 IsShaped t (BaseEquation n) = (m : ℕ) × (s : Lambda) × (u : Lambda) × (n ≡ suc m) × (t ≡ eq (base (suc m)) s u)
 IsShaped t Quantified = (a : SimpleType) × (f : Lambda) × (t ≡ every a f)
-IsShaped t Other = IsMated t
+IsShaped t Other = IsConnected t
 
 shaped : (t : Lambda) → IsShaped t (shape_of t)
 shaped (bound k) = λ setting st. (refl, refl)
 shaped (lam a s) = λ setting st. (refl, refl)
 shaped (constant (name k)) = λ setting st. (refl, refl)
 shaped (constant (witness k)) = λ setting st. (refl, refl)
-shaped (constant falsity) = refl
+shaped (constant falsity) = λ setting st. (refl, refl)
 shaped (constant negation) = λ setting st. (refl, refl)
 shaped (constant implication) = λ setting st. (refl, refl)
 shaped (constant (all a)) = λ setting st. (refl, refl)
@@ -66,7 +64,7 @@ shaped (app (app (constant (name k)) s) u) = λ setting st. (refl, refl)
 shaped (app (app (constant (witness k)) s) u) = λ setting st. (refl, refl)
 shaped (app (app (constant falsity) s) u) = λ setting st. (refl, refl)
 shaped (app (app (constant negation) s) u) = λ setting st. (refl, refl)
-shaped (app (app (constant implication) s) u) = (s, u, refl)
+shaped (app (app (constant implication) s) u) = λ setting st. (refl, refl)
 shaped (app (app (constant (all a)) s) u) = λ setting st. (refl, refl)
 shaped (app (app (constant (equality (base zero))) s) u) = (s, u, refl)
 shaped (app (app (constant (equality (base (suc n)))) s) u) = (n, s, u, refl, refl)
@@ -136,28 +134,6 @@ other-head h p q r [] = p
 other-head h p q r (t ∷ []) = q t
 other-head h p q r (t ∷ u ∷ []) = r t u
 other-head h p q r (t ∷ u ∷ v ∷ ts) = three_arguments h t u v ts
-
-pub falsity-alone : (ts : List Lambda) → length ts ≡ 0 → Falsity ≡ shape_of (applied (constant falsity) ts)
-falsity-alone [] n = refl
-falsity-alone (t ∷ ts) n = absurd (omega (arith, n))
-
-pub falsity-others : (ts : List Lambda) → (length ts ≡ 0 → ⊥) → Other ≡ shape_of (applied (constant falsity) ts)
-falsity-others [] n = absurd (n refl)
-falsity-others (t ∷ []) n = refl
-falsity-others (t ∷ u ∷ []) n = refl
-falsity-others (t ∷ u ∷ v ∷ ts) n = three_arguments (constant falsity) t u v ts
-
-pub implication-pair : (ts : List Lambda) → length ts ≡ 2 → Implication ≡ shape_of (applied (constant implication) ts)
-implication-pair [] n = absurd (omega (arith, n))
-implication-pair (t ∷ []) n = absurd (omega (arith, n))
-implication-pair (t ∷ u ∷ []) n = refl
-implication-pair (t ∷ u ∷ v ∷ ts) n = absurd (omega (arith, n))
-
-pub implication-others : (ts : List Lambda) → (length ts ≡ 2 → ⊥) → Other ≡ shape_of (applied (constant implication) ts)
-implication-others [] n = refl
-implication-others (t ∷ []) n = refl
-implication-others (t ∷ u ∷ []) n = absurd (n refl)
-implication-others (t ∷ u ∷ v ∷ ts) n = three_arguments (constant implication) t u v ts
 
 pub equation-pair : (a : SimpleType) (ts : List Lambda) → length ts ≡ 2 → equation_shape a ≡ shape_of (applied (constant (equality a)) ts)
 equation-pair a [] n = absurd (omega (arith, n))

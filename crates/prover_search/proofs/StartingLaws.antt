@@ -12,7 +12,7 @@ use Rattle.tableau_calculus.proofs.AddedLaws.{added-append}
 use Rattle.tableau_calculus.specs.Witnesses.{Row, with_rows}
 use Rattle.sat_base.specs.declared.literal.SatLit.{SatLit}
 use Rattle.command_queue.specs.Queue.{Queue}
-use Rattle.search_spec.specs.Each.{Each}
+use Rattle.tableau_calculus.specs.Each.{Each}
 use Rattle.mode_file.specs.declared.Mode.{Mode}
 use Rattle.mode_file.specs.Given.{IsInRange}
 use Rattle.search_spec.specs.Shallow.{is_shallow_literal}

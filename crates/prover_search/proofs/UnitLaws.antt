@@ -2,7 +2,7 @@
 use Rattle.std.specs.Prelude.{◌≡◌, ◌≢◌, List, [], ◌∷◌, ◌++◌, map, refl}
 use Rattle.std.proofs.Common.{ap, ap₂, ◌∙◌, append-nil}
 use Rattle.sat_base.specs.declared.literal.SatLit.{SatLit}
-use Rattle.search_spec.specs.Each.{Each}
+use Rattle.tableau_calculus.specs.Each.{Each}
 use Rattle.search_spec.proofs.NamingLaws.{each-joined}
 use Rattle.literal_map.specs.Atoms.{bank_literal}
 use Rattle.literal_map.specs.declared.instance.Instance.{Instance}

@@ -22,7 +22,7 @@ use Rattle.search_spec.specs.Preparing.{with_preparation}
 use Rattle.search_spec.specs.Witness.{same_row, witness_of, with_witness}
 use Rattle.search_spec.proofs.RowLaws.{no_row}
 use Rattle.search_spec.specs.Selections.{selections_in, with_selections}
-use Rattle.search_spec.specs.Processing.{with_rules, with_equation, with_decomposition, with_confrontations, with_matings, with_processing}
+use Rattle.search_spec.specs.Processing.{connective_rule, with_connective, with_rules, with_equation, with_decomposition, with_confrontations, with_matings, with_processing}
 use Rattle.term_bank.specs.Terms.{term_at}
 use Rattle.literal_map.specs.Atoms.{bank_literal}
 use Rattle.prover_state.specs.declared.command.Planned.{Planned}
@@ -40,7 +40,7 @@ use Rattle.prover_search.specs.Internal.Working.{denies_itself}
 use Rattle.prover_search.proofs.MadeStays.{literal-wider}
 use Rattle.prover_search.proofs.DevelopLaws.{grows-wider, steps-same}
 use Rattle.prover_search.proofs.RunLaws.{scope-wider}
-use Rattle.prover_search.proofs.ShapedLaws.{IsMated}
+use Rattle.prover_search.proofs.ShapedLaws.{IsConnected}
 
 -- LITERALS
 
@@ -78,11 +78,12 @@ module _ (setting : Setting) (st : State) where
   pub mated-is : (l : Literal) → is_spine l.atom ≡ true → with_commands setting.mode (matings l st.noted) st ≡ with_matings setting l st
   mated-is l e = sym (ap (λ (b : Bool). if b then with_commands setting.mode (matings l st.noted) st else st) e)
 
-  -- for a literal of another shape no more is done than that it is mated
-  pub worked-other : (l : Literal) → IsMated l.atom → with_matings setting l st ≡ with_rules setting l.positive l.atom st
+  -- for a literal of another shape is done what its connective asks for
+  pub worked-other : (l : Literal) → IsConnected l.atom → with_connective setting l (connective_rule l.atom l.positive) st ≡ with_rules setting l.positive l.atom st
   worked-other l h = by_sign l.positive l.atom (h setting st)
     where
-      by_sign : (b : Bool) (t : Lambda) → (with_rules setting true t st ≡ with_matings setting (plus t) st) × (with_rules setting false t st ≡ with_matings setting (minus t) st) → with_matings setting (record { positive = b; atom = t }) st ≡ with_rules setting b t st
+      by_sign : (b : Bool) (t : Lambda) → (with_rules setting true t st ≡ with_connective setting (plus t) (connective_rule t true) st) × (with_rules setting false t st ≡ with_connective setting (minus t) (connective_rule t false) st)
+          → with_connective setting (record { positive = b; atom = t }) (connective_rule t b) st ≡ with_rules setting b t st
       by_sign true t k = sym k.0
       by_sign false t k = sym k.1
 

@@ -8,7 +8,7 @@ pub use Rattle.sat_core.specs.Solver
 pub use Rattle.sat_log.specs.Chains
 pub use Rattle.search_spec.specs.After
 pub use Rattle.search_spec.specs.Commands
-pub use Rattle.search_spec.specs.Each
+pub use Rattle.tableau_calculus.specs.Each
 pub use Rattle.search_spec.specs.Instances
 pub use Rattle.search_spec.specs.Processing
 pub use Rattle.search_spec.specs.Shallow

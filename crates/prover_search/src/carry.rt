@@ -1,7 +1,7 @@
 //! Commands are carried out.
 ghost use Rattle.std.specs.Prelude.{◌≡◌, ◌<◌, length, OnOk};
 ghost use Rattle.search_spec.specs.Commands.{with_command};
-ghost use Rattle.search_spec.specs.Each.{Each};
+ghost use Rattle.tableau_calculus.specs.Each.{Each};
 ghost use Rattle.search_spec.specs.TypedState.{IsTypedSketch, IsTypedCommand};
 ghost use Rattle.type_bound.specs.Small.{IsSmallCommand};
 ghost use Rattle.prover_state.specs.Lasting.{lasting};

@@ -5,12 +5,12 @@
 mod advance;
 mod alone;
 mod carry;
+mod connective;
 mod equation;
 mod instances;
 mod offered;
 mod prepared;
 mod process;
-mod propositional;
 mod quantifier;
 mod search;
 mod shape;

@@ -13,12 +13,10 @@ use sat_base::SatLit;
 use stt_core::{Head, Ty};
 use term_bank::{Bank, Id, Node};
 
-/// What is done for a literal depends on the shape of its atom: falsity, an implication, an equation between formulas, between functions
-/// or between terms of another base type, whose number is given, a claim that a predicate holds everywhere, or another formula.
+/// What is done for a literal depends on the shape of its atom: an equation between formulas, between functions or between terms of
+/// another base type, whose number is given, a claim that a predicate holds everywhere, or another formula.
 #[derive(Clone, Copy)]
 pub(crate) enum Shape {
-    Falsity,
-    Implication,
     FormulaEquation,
     FunctionEquation,
     BaseEquation(u32),
@@ -50,21 +48,9 @@ fn shape_with(head: &Head, count: usize) -> Shape
         Head::Bound(_) => Shape::Other,
         Head::Name(_) => Shape::Other,
         Head::Wit(_) => Shape::Other,
-        Head::False => {
-            if count == 0 {
-                Shape::Falsity
-            } else {
-                Shape::Other
-            }
-        }
+        Head::False => Shape::Other,
         Head::Not => Shape::Other,
-        Head::Imp => {
-            if count == 2 {
-                Shape::Implication
-            } else {
-                Shape::Other
-            }
-        }
+        Head::Imp => Shape::Other,
         Head::All(_) => {
             if count == 1 {
                 Shape::Quantified

@@ -3,7 +3,7 @@ use Rattle.std.specs.Prelude.{◌≡◌, ◌<◌, ◌≤◌, ◌+◌, nat_eq, �
 use Rattle.std.specs.List.Sorted.{IsNonDecreasingBy, IsPartitionPoint}
 use Rattle.std.proofs.Common.{ltb, ltb-true, ltb-false, arith}
 use Rattle.stt_core.specs.SimpleType.{SimpleType, target}
-use Rattle.search_spec.specs.Each.{Each}
+use Rattle.tableau_calculus.specs.Each.{Each}
 use Rattle.search_spec.specs.Heads.{places_to}
 use Rattle.prover_state.specs.Internal.Fitting.{SplitsAt}
 use Rattle.prover_state.proofs.FittingLaws.{places-range}

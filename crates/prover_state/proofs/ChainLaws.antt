@@ -6,7 +6,7 @@ use Rattle.std.proofs.lemmas.Bool.Decides.{eqb_tells}
 use Rattle.std.proofs.lemmas.List.{length-map, length-reverse, get_or-reverse}
 use Rattle.std.proofs.lemmas.Option.{same_Some, slice_get_read}
 use Rattle.stt_core.proofs.ListLaws.{mapped_get, map-append}
-use Rattle.search_spec.specs.Each.{Each}
+use Rattle.tableau_calculus.specs.Each.{Each}
 use Rattle.search_spec.specs.Partial.{Hole}
 use Rattle.prover_state.proofs.EachLaws.{each-weaker, map-same}
 use Rattle.prover_state.specs.Internal.Chains.{Cell, chain, AreLinked, ExtendsCells}

@@ -4,7 +4,7 @@ use Rattle.std.specs.List.{All, list_any}
 use Rattle.std.proofs.Common.{sym, ap, ◌∙◌, arith, append-nil, append_assoc}
 use Rattle.std.proofs.Math.Seq.{take-append_seam}
 use Rattle.sat_base.specs.declared.literal.SatLit.{SatLit}
-use Rattle.search_spec.specs.Each.{Each}
+use Rattle.tableau_calculus.specs.Each.{Each}
 use Rattle.search_spec.specs.Clauses.{same_clause, with_clauses}
 use Rattle.tableau_calculus.specs.Kinds.{Kind}
 use Rattle.prover_state.specs.Internal.Growing.{Longer}

@@ -15,7 +15,7 @@ use Rattle.witness_names.specs.Rows.{rows_of}
 use Rattle.tableau_clauses.specs.Table.{Table, the_clauses}
 use Rattle.instantiate.specs.Listing.{Listing, ids_of, with_listed}
 use Rattle.search_spec.specs.After.{nothing_yet}
-use Rattle.search_spec.specs.Each.{Each}
+use Rattle.tableau_calculus.specs.Each.{Each}
 use Rattle.search_spec.specs.Heads.{places_to}
 use Rattle.search_spec.specs.State.{Sketch}
 use Rattle.search_spec.specs.Witness.{has_hole_of}

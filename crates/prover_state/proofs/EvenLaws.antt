@@ -9,7 +9,7 @@ use Rattle.tableau_calculus.specs.Literals.{Literal}
 use Rattle.tableau_calculus.specs.Witnesses.{with_rows}
 use Rattle.mode_file.specs.declared.Mode.{Mode}
 use Rattle.search_spec.specs.Defaults.{is_value_choice, default_delay}
-use Rattle.search_spec.specs.Each.{Each}
+use Rattle.tableau_calculus.specs.Each.{Each}
 use Rattle.search_spec.specs.Heads.{HeadOffers, places_to, is_offered, offered_bases, given_heads, is_none_given, logical_heads, heads_for}
 use Rattle.search_spec.specs.Partial.{Hole, first_hole}
 use Rattle.search_spec.specs.Partners.{positive_first}

@@ -6,7 +6,7 @@ use Rattle.stt_core.specs.SimpleType.{SimpleType, base, target}
 use Rattle.stt_core.specs.Lambda.{Lambda, bound, constant, name, witness, all, equality}
 use Rattle.stt_core.specs.Typing.{Scope}
 use Rattle.stt_core.proofs.ListLaws.{mapped_get, drop_got, slice_get-append}
-use Rattle.search_spec.specs.Each.{Each}
+use Rattle.tableau_calculus.specs.Each.{Each}
 use Rattle.search_spec.specs.Heads.{HeadOffers, places_to, logical_heads, heads_for}
 use Rattle.search_spec.specs.Partial.{Hole}
 use Rattle.prover_state.specs.Internal.Fitting.{variables_for, names_for, chooses_for, over_bases, logical_for, later_heads, SplitsAt}

@@ -5,7 +5,7 @@ use Rattle.std.proofs.lemmas.List.{length-map}
 use Rattle.stt_core.specs.SimpleType.{SimpleType, base, formula}
 use Rattle.stt_core.proofs.ListLaws.{mapped_get}
 use Rattle.command_queue.specs.Queue.{Queue}
-use Rattle.search_spec.specs.Each.{Each}
+use Rattle.tableau_calculus.specs.Each.{Each}
 use Rattle.search_spec.specs.Partial.{Hole, Partial, hole, head, function, application, or_else, first_hole}
 use Rattle.search_spec.specs.State.{Sketch, Command as Meant, grow}
 use Rattle.search_spec.specs.Witness.{has_hole_of}

@@ -6,7 +6,7 @@ use Rattle.stt_core.proofs.ListLaws.{map-append}
 use Rattle.tableau_calculus.specs.Literals.{Literal}
 use Rattle.sat_base.specs.declared.literal.SatLit.{SatLit}
 use Rattle.command_queue.specs.Queue.{Queue}
-use Rattle.search_spec.specs.Each.{Each}
+use Rattle.tableau_calculus.specs.Each.{Each}
 use Rattle.mode_file.specs.declared.Mode.{Mode}
 use Rattle.search_spec.specs.Shallow.{is_shallow_literal}
 use Rattle.search_spec.specs.Clauses.{instance_clauses, with_clauses}

@@ -9,7 +9,7 @@ use Rattle.stt_core.proofs.ListLaws.{map-append}
 use Rattle.tableau_calculus.specs.Literals.{Literal}
 use Rattle.tableau_calculus.specs.Witnesses.{Row, with_rows}
 use Rattle.command_queue.specs.declared.entry.Entry.{Entry}
-use Rattle.search_spec.specs.Each.{Each}
+use Rattle.tableau_calculus.specs.Each.{Each}
 use Rattle.search_spec.specs.Heads.{HeadOffers, heads_for}
 use Rattle.search_spec.specs.Partial.{first_hole}
 use Rattle.search_spec.specs.Partners.{positive_first, matings, confrontations}

@@ -9,7 +9,7 @@ use Rattle.stt_core.proofs.ListLaws.{map-append}
 use Rattle.tableau_calculus.specs.Literals.{Literal}
 use Rattle.sat_base.specs.declared.literal.SatLit.{SatLit}
 use Rattle.command_queue.specs.Queue.{Queue}
-use Rattle.search_spec.specs.Each.{Each}
+use Rattle.tableau_calculus.specs.Each.{Each}
 use Rattle.search_spec.specs.Terms.{ranges_over}
 use Rattle.search_spec.specs.Internal.Loops.{queue_of}
 use Rattle.literal_map.specs.Atoms.{bank_literal, bank_atom}

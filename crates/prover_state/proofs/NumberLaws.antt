@@ -9,7 +9,7 @@ use Rattle.tableau_calculus.specs.Literals.{Literal}
 use Rattle.tableau_calculus.specs.Kinds.{same_signed, formulas}
 use Rattle.sat_base.specs.declared.literal.SatLit.{SatLit}
 use Rattle.sat_base.specs.Truth.{Unsat}
-use Rattle.search_spec.specs.Each.{Each}
+use Rattle.tableau_calculus.specs.Each.{Each}
 use Rattle.search_spec.specs.Numbered as by_atoms
 use Rattle.search_spec.specs.Numbered.{numbers, AreApart}
 use Rattle.search_spec.specs.Unsatisfiable.{Unsatisfiable}

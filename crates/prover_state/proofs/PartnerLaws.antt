@@ -9,7 +9,7 @@ use Rattle.tableau_calculus.specs.Literals.{Literal}
 use Rattle.tableau_calculus.specs.Kinds.{same_sign}
 use Rattle.sat_base.specs.declared.literal.SatLit.{SatLit}
 use Rattle.command_queue.specs.Queue.{Queue}
-use Rattle.search_spec.specs.Each.{Each}
+use Rattle.tableau_calculus.specs.Each.{Each}
 use Rattle.search_spec.specs.Partners.{partners, equates_on, has_equal_sides, positive_first, matings, confrontations}
 use Rattle.search_spec.specs.Spine.{head_of, has_compared_head, is_application, is_spine, same_head}
 use Rattle.search_spec.specs.State.{Command as Meant, mate, confront}

@@ -3,7 +3,7 @@ use Rattle.std.specs.Prelude.{◌≡◌, ◌≤◌, ◌<◌, ◌+◌, ◌++◌, 
 use Rattle.std.proofs.Common.{sym, ap, ap₂, subst, ◌∙◌, arith, append_assoc}
 use Rattle.mode_file.specs.declared.Mode.{Mode}
 use Rattle.command_queue.specs.declared.entry.Entry.{Entry}
-use Rattle.search_spec.specs.Each.{Each}
+use Rattle.tableau_calculus.specs.Each.{Each}
 use Rattle.search_spec.specs.Queue.{new_entries}
 use Rattle.search_spec.specs.State.{State, Command as Meant, due, with_commands}
 use Rattle.prover_state.specs.declared.command.Command.{Command}

@@ -4,7 +4,7 @@ use Rattle.std.specs.List.{All}
 use Rattle.std.proofs.Common.{sym, subst, arith, inl, inr}
 use Rattle.command_queue.specs.declared.entry.Entry.{Entry}
 use Rattle.command_queue.specs.Queue.{Queue, AddsEntry, AddsEntryAt, TakesEntry}
-use Rattle.search_spec.specs.Each.{Each}
+use Rattle.tableau_calculus.specs.Each.{Each}
 use Rattle.prover_state.specs.declared.command.Planned.{Planned}
 use Rattle.prover_state.specs.Internal.Pending.{span, EndsBelow, IsApart, AreSpaced}
 use Rattle.prover_state.proofs.EachLaws.{each-from_All, All-from_each, each-weaker, each-left, each-right}

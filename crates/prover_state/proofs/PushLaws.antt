@@ -8,7 +8,7 @@ use Rattle.mode_file.specs.declared.Mode.{Mode}
 use Rattle.sat_core.specs.Solver.{learned}
 use Rattle.command_queue.specs.declared.entry.Entry.{Entry}
 use Rattle.command_queue.specs.Queue.{Queue, AddsEntry}
-use Rattle.search_spec.specs.Each.{Each}
+use Rattle.tableau_calculus.specs.Each.{Each}
 use Rattle.search_spec.specs.Queue.{new_entries}
 use Rattle.search_spec.specs.Partners.{positive_first}
 use Rattle.search_spec.specs.State.{State, Command as Meant, process, mate, confront, inst, grow, choose, describe, kind_delay, due, with_commands}

@@ -16,7 +16,7 @@ use Rattle.literal_map.specs.Numbers.{UseByNumbers}
 use Rattle.tableau_rules.specs.Uses.{use_of, IsInstanceBy}
 use Rattle.tableau_rules.specs.Changes.{Widens, denial_of, AreWitnessesAfter, AreWitnessesBy}
 use Rattle.tableau_rules.proofs.MadeLaws.{use_same}
-use Rattle.search_spec.specs.Each.{Each}
+use Rattle.tableau_calculus.specs.Each.{Each}
 use Rattle.prover_state.specs.declared.tables.Basis.{Basis}
 use Rattle.prover_state.specs.Internal.Growing.{Continues, BasisGrows}
 use Rattle.prover_state.specs.Internal.Names.{Naming, IsNumberIn, IsPlace}

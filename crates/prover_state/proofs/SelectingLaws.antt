@@ -11,7 +11,7 @@ use Rattle.stt_core.specs.Canonical.{IsCanonical}
 use Rattle.stt_core.proofs.ListLaws.{drop_got}
 use Rattle.stt_core.proofs.SpineLaws.{IsAtom}
 use Rattle.stt_core.proofs.SameTerms.{same_term-of}
-use Rattle.search_spec.specs.Each.{Each}
+use Rattle.tableau_calculus.specs.Each.{Each}
 use Rattle.mode_file.specs.declared.Mode.{Mode}
 use Rattle.search_spec.specs.Selections.{Selection, by_choice, by_description, selection_by, selections_in, with_selection, with_selections}
 use Rattle.search_spec.specs.Spine.{head_of, arguments}

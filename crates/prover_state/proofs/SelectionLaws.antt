@@ -5,7 +5,7 @@ use Rattle.std.proofs.Common.{sym, ap, subst, ◌∙◌}
 use Rattle.stt_core.specs.Lambda.{Lambda}
 use Rattle.stt_core.proofs.ListLaws.{map-append}
 use Rattle.command_queue.specs.Queue.{Queue}
-use Rattle.search_spec.specs.Each.{Each}
+use Rattle.tableau_calculus.specs.Each.{Each}
 use Rattle.mode_file.specs.declared.Mode.{Mode}
 use Rattle.search_spec.specs.Selections.{by_choice, by_description, selections_in, with_selection}
 use Rattle.search_spec.specs.State.{State, choose, describe, with_commands}

@@ -2,7 +2,7 @@
 use Rattle.std.specs.Prelude.{◌≡◌, ◌<◌, ◌≤◌, ℕ, List, [], ◌∷◌, ◌++◌}
 use Rattle.std.proofs.Common.{inl, inr, arith}
 use Rattle.command_queue.specs.declared.entry.Entry.{Entry}
-use Rattle.search_spec.specs.Each.{Each}
+use Rattle.tableau_calculus.specs.Each.{Each}
 use Rattle.prover_state.specs.declared.command.Planned.{Planned}
 use Rattle.prover_state.specs.Internal.Pending.{EndsBelow, AreSpaced, IsApart}
 use Rattle.prover_state.proofs.EachLaws.{each-last, each-between, each-without}

@@ -7,7 +7,7 @@ use Rattle.tableau_calculus.specs.RuleUses.{principals_of, EachPart}
 use Rattle.tableau_calculus.specs.declared.rule_use.RuleUse.TheVariants.{AtOne, AtTwo, AllPos, WithPredicate, Cut}
 use Rattle.tableau_calculus.proofs.UseLaws.{each_part-more}
 use Rattle.refute_print.specs.Sizes.{IsSmallTerm}
-use Rattle.search_spec.specs.Each.{Each}
+use Rattle.tableau_calculus.specs.Each.{Each}
 use Rattle.search_spec.specs.Clauses.{with_clauses}
 use Rattle.search_spec.specs.Numbered.{numbers}
 use Rattle.literal_map.specs.Atoms.{bank_literal}

@@ -4,7 +4,7 @@ use Rattle.std.proofs.Common.{sym, ap, ap₂, subst, ◌∙◌, arith, inl, inr}
 use Rattle.stt_core.specs.Typing.{Scope}
 use Rattle.command_queue.specs.declared.entry.Entry.{Entry}
 use Rattle.command_queue.specs.Queue.{Queue, TakesEntry, AddsEntryAt}
-use Rattle.search_spec.specs.Each.{Each}
+use Rattle.tableau_calculus.specs.Each.{Each}
 use Rattle.search_spec.specs.Queue.{next_command, without_number}
 use Rattle.search_spec.specs.State.{State, Command as Meant}
 use Rattle.search_spec.specs.Internal.Loops.{Loop, queue_of, loop_left}

@@ -4,7 +4,7 @@ use Rattle.std.specs.List.{list_any}
 use Rattle.std.proofs.Common.{sym, subst, subst₂}
 use Rattle.stt_core.specs.Lambda.{Lambda}
 use Rattle.stt_core.specs.SameTerm.{same_term}
-use Rattle.search_spec.specs.Each.{Each}
+use Rattle.tableau_calculus.specs.Each.{Each}
 use Rattle.search_spec.specs.Selections.{Selection, by_choice, by_description, selections_in}
 use Rattle.term_bank.specs.Terms.{term_at}
 use Rattle.prover_state.specs.Internal.Names.{IsPlace}

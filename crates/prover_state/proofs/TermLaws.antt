@@ -11,7 +11,7 @@ use Rattle.stt_core.proofs.ListLaws.{map-append}
 use Rattle.tableau_calculus.specs.Literals.{Literal}
 use Rattle.sat_base.specs.declared.literal.SatLit.{SatLit}
 use Rattle.command_queue.specs.Queue.{Queue}
-use Rattle.search_spec.specs.Each.{Each}
+use Rattle.tableau_calculus.specs.Each.{Each}
 use Rattle.mode_file.specs.declared.Mode.{Mode}
 use Rattle.search_spec.specs.Terms.{terms_of, ranges_over, universals, with_term}
 use Rattle.search_spec.specs.State.{State, Typed, inst, with_commands}

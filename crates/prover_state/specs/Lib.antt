@@ -9,7 +9,7 @@ pub use Rattle.refute_print.specs.Sizes
 pub use Rattle.search_spec.specs.After
 pub use Rattle.search_spec.specs.Clauses
 pub use Rattle.search_spec.specs.Closed
-pub use Rattle.search_spec.specs.Each
+pub use Rattle.tableau_calculus.specs.Each
 pub use Rattle.search_spec.specs.Heads
 pub use Rattle.search_spec.specs.Instances
 pub use Rattle.search_spec.specs.Numbered

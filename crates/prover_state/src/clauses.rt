@@ -3,7 +3,7 @@ ghost use Rattle.std.specs.Prelude.{◌≡◌, ◌<◌, ◌≤◌, List, length,
 ghost use Rattle.std.specs.List.{All, list_all, flat_map};
 ghost use Rattle.sat_base.specs.declared.literal.SatLit.{SatLit};
 ghost use Rattle.tableau_calculus.specs.Literals.{Literal};
-ghost use Rattle.search_spec.specs.Each.{Each};
+ghost use Rattle.tableau_calculus.specs.Each.{Each};
 ghost use Rattle.search_spec.specs.Clauses.{instance_clauses, with_clauses};
 ghost use Rattle.search_spec.specs.Numbered.{numbers};
 ghost use Rattle.search_spec.specs.Shallow.{is_shallow_literal};

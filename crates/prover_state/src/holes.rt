@@ -31,7 +31,7 @@ pub struct OpenHoles {
 impl Model for OpenHoles {
     ghost use Rattle.std.specs.Prelude.{List, map, length, ◌≤◌};
     ghost use Rattle.std.specs.Coded.{coded_list};
-    ghost use Rattle.search_spec.specs.Each.{Each};
+    ghost use Rattle.tableau_calculus.specs.Each.{Each};
     ghost use Rattle.search_spec.specs.Partial.{Hole};
     ghost use Rattle.prover_state.specs.Internal.Holes.{hole_code};
     ghost use Rattle.prover_state.specs.Internal.Chains.{chain};

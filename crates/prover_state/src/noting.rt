@@ -3,7 +3,7 @@ ghost use Rattle.std.specs.Prelude.{◌≡◌, ◌<◌, [], ◌∷◌, ◌++◌,
 ghost use Rattle.stt_core.specs.SimpleType.{SimpleType};
 ghost use Rattle.mating_rules.specs.Noted.{IsRightIndex};
 ghost use Rattle.instantiate.specs.Listing.{ids_of};
-ghost use Rattle.search_spec.specs.Each.{Each};
+ghost use Rattle.tableau_calculus.specs.Each.{Each};
 ghost use Rattle.prover_state.specs.Lasting.{lasting};
 ghost use Rattle.prover_state.specs.Internal.Names.{IsNumberIn};
 ghost use Rattle.prover_state.specs.Internal.Standing.{can_pair, is_universal, IsBasis, IsRightState};

@@ -1,7 +1,7 @@
 //! The commands that wait.
 ghost use Rattle.std.specs.Prelude.{◌≡◌, ◌<◌, ◌≤◌, ◌+◌, ◌^◌, [], suc, ◌↔◌, IsTrue, OnOk, OnErr, IfOk, IsNone, IfNone, IfSome};
 ghost use Rattle.command_queue.specs.Queue.{AddsEntry, AddsEntryAt, TakesEntry, GainsRoom};
-ghost use Rattle.search_spec.specs.Each.{Each};
+ghost use Rattle.tableau_calculus.specs.Each.{Each};
 ghost use Rattle.prover_state.specs.Delays.{delay_by};
 ghost use Rattle.prover_state.specs.Internal.Pending.{span, AreSpaced, EndsBelow, IsApart};
 

@@ -1,6 +1,6 @@
 //! Pushes.
 ghost use Rattle.std.specs.Prelude.{◌≡◌, [], ◌∷◌, map, OnOk};
-ghost use Rattle.search_spec.specs.Each.{Each};
+ghost use Rattle.tableau_calculus.specs.Each.{Each};
 ghost use Rattle.search_spec.specs.Instances.{with_literal, with_literals};
 ghost use Rattle.search_spec.specs.State.{with_commands};
 ghost use Rattle.prover_state.specs.Lasting.{lasting};

@@ -1,6 +1,6 @@
 //! Instances of rules that make no witness.
 ghost use Rattle.std.specs.Prelude.{◌≡◌, ◌<◌, ◌-◌, ◌^◌, List, length, map, None, false, IfOk, OnOk};
-ghost use Rattle.search_spec.specs.Each.{Each};
+ghost use Rattle.tableau_calculus.specs.Each.{Each};
 ghost use Rattle.tableau_calculus.specs.CutFree.{is_cut_use};
 ghost use Rattle.tableau_calculus.specs.Literals.{Literal};
 ghost use Rattle.tableau_calculus.specs.RuleUses.{principals_of, EachPart};

@@ -5,7 +5,7 @@ use Rattle.thf_grammar.specs.Trees.{StatementTree, SelectedTree}
 use Rattle.thf_parse.specs.Parsing.{depth_limit}
 use Rattle.thf_include.specs.View.{PlacedTree}
 use Rattle.thf_include.specs.Gathering.{Ending, done, stopped, behind_statements, IsFileText, is_selected, is_missing, select_by, select, FileEnds, unread, long, refused, followed, StatementEnds, stays, in_cycle, past_limit, stops, selects, StatementsEnd, no_more, ends, goes_on}
-use Rattle.search_spec.specs.Each.{Each}
+use Rattle.tableau_calculus.specs.Each.{Each}
 use Rattle.search_spec.proofs.NamingLaws.{each-joined}
 use Rattle.search_spec.proofs.TypedPushes.{each_filtered}
 use Rattle.read_bound.specs.Read.{IsShallowBody, IsShallowStatement}

@@ -24,7 +24,7 @@ use Rattle.type_check.specs.Typed.{TypedTerm, typed, of_type, where_typed, domai
 use Rattle.type_check.specs.Rows.{signed, truth_value, join, operator_term, quantify}
 use Rattle.type_check.specs.Terms.{TermReading, known_term, constant_named, variable_named, typed_negation, typed_connection, typed_equation, typed_application, quantified_over, typed_quantifier, bind, read_binder, read_term}
 use Rattle.type_check.specs.Statements.{is_role, is_conjecture, is_definition, own_place, where_formula, read_formula, where_new, with_base, with_const, with_formula, with_assumed, with_conjecture, read_body, read_known, read_statement, IllInFile, in_file, read_statements, empty_problem}
-use Rattle.search_spec.specs.Each.{Each}
+use Rattle.tableau_calculus.specs.Each.{Each}
 use Rattle.search_spec.proofs.NamingLaws.{each-joined, pick_good}
 use Rattle.refute_print.specs.Sizes.{nesting}
 use Rattle.type_bound.specs.Modest.{IsModest, IsModestIfAny}

@@ -10,7 +10,7 @@ use Rattle.thf_grammar.specs.Formulas.{AreVars, last_var, more_vars, IsFormulaTe
 use Rattle.thf_grammar.specs.Notes.{IsGeneral, data_general, pair_general, empty_general, list_general, AreGenerals, last_general, more_generals, IsData, name_data, call_data, upper_data, integer_data, distinct_data, AreNotes, no_notes, one_note, two_notes}
 use Rattle.thf_grammar.specs.Statements.{IsTyping, base_typing, constant_typing, group_typing, IsBody, typing_body, formula_body, AreLabels, last_label, more_labels, IsSelection, everything, only, IsEnd, ends, IsStatement, annotated_statement, include_statement, IsFile, no_statement, more_statements}
 use Rattle.thf_parse.specs.Parsing.{AreWithinDepth}
-use Rattle.search_spec.specs.Each.{Each}
+use Rattle.tableau_calculus.specs.Each.{Each}
 use Rattle.read_bound.specs.Read.{nest, binders, AreShallowVars, HasShallowVars, IsShallowBody, IsShallowStatement}
 
 module _ (limit : ℕ) where

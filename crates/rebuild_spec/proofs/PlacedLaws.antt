@@ -7,7 +7,7 @@ use Rattle.stt_core.specs.Typing.{Scope}
 use Rattle.tableau_calculus.specs.Literals.{Literal}
 use Rattle.tableau_calculus.specs.Witnesses.{Row}
 use Rattle.tableau_calculus.specs.RuleUses.{principals_of}
-use Rattle.tableau_calculus.specs.Rules.{PlainRule, Rule, AreAt, IsInstance, false_rule, close_rule, refl_rule, imp_pos_rule, imp_neg_rule, bool_pos_rule, bool_neg_rule, fun_pos_rule, fun_neg_rule, all_pos_rule, all_neg_rule, mat_rule, dec_rule, con_rule, cho_rule, des_rule, cut_rule}
+use Rattle.tableau_calculus.specs.Rules.{PlainRule, Rule, AreAt, IsInstance, alone_rule, close_rule, all_pos_rule, all_neg_rule, mat_rule, dec_rule, con_rule, cho_rule, des_rule, cut_rule}
 use Rattle.tableau_calculus.specs.Accepted.{IsTypedUse}
 use Rattle.sat_base.specs.declared.literal.SatLit.{SatLit}
 use Rattle.sat_base.specs.Literal.{same_literal, holds}
@@ -39,15 +39,8 @@ module _ (scope : Scope) (rows : List Row) (atoms : List Lambda) (at : SatLit �
 
   -- a rule fits at whichever places of its principals
   pub placed_fits : (rule : PlainRule) (ls : List Literal) (alternatives : List (List Literal)) → Rule scope rows rule ls alternatives → (ps : List SatLit) → literals_of atoms ps ≡ ls → IsPlacedRule rule ls alternatives ps
-  placed_fits rule ls alternatives (false_rule i) ps e = let o = one_literal ps _ e in subst (IsPlacedRule rule ls alternatives) (sym o.1) (refl, false_rule (at o.0))
+  placed_fits rule ls alternatives (alone_rule i kind l as' h) ps e = let o = one_literal ps _ e in subst (IsPlacedRule rule ls alternatives) (sym o.1) (refl, alone_rule (at o.0) kind l as' h)
   placed_fits rule ls alternatives (close_rule i j l) ps e = let o = two_literals ps _ _ e in subst (IsPlacedRule rule ls alternatives) (sym o.2) (refl, close_rule (at o.0) (at o.1) l)
-  placed_fits rule ls alternatives (refl_rule i a s) ps e = let o = one_literal ps _ e in subst (IsPlacedRule rule ls alternatives) (sym o.1) (refl, refl_rule (at o.0) a s)
-  placed_fits rule ls alternatives (imp_pos_rule i s t) ps e = let o = one_literal ps _ e in subst (IsPlacedRule rule ls alternatives) (sym o.1) (refl, imp_pos_rule (at o.0) s t)
-  placed_fits rule ls alternatives (imp_neg_rule i s t) ps e = let o = one_literal ps _ e in subst (IsPlacedRule rule ls alternatives) (sym o.1) (refl, imp_neg_rule (at o.0) s t)
-  placed_fits rule ls alternatives (bool_pos_rule i s t) ps e = let o = one_literal ps _ e in subst (IsPlacedRule rule ls alternatives) (sym o.1) (refl, bool_pos_rule (at o.0) s t)
-  placed_fits rule ls alternatives (bool_neg_rule i s t) ps e = let o = one_literal ps _ e in subst (IsPlacedRule rule ls alternatives) (sym o.1) (refl, bool_neg_rule (at o.0) s t)
-  placed_fits rule ls alternatives (fun_pos_rule i a b s t) ps e = let o = one_literal ps _ e in subst (IsPlacedRule rule ls alternatives) (sym o.1) (refl, fun_pos_rule (at o.0) a b s t)
-  placed_fits rule ls alternatives (fun_neg_rule i a b s t) ps e = let o = one_literal ps _ e in subst (IsPlacedRule rule ls alternatives) (sym o.1) (refl, fun_neg_rule (at o.0) a b s t)
   placed_fits rule ls alternatives (all_pos_rule i a f u h) ps e = let o = one_literal ps _ e in subst (IsPlacedRule rule ls alternatives) (sym o.1) (refl, all_pos_rule (at o.0) a f u h)
   placed_fits rule ls alternatives (all_neg_rule i k a f h) ps e = let o = one_literal ps _ e in subst (IsPlacedRule rule ls alternatives) (sym o.1) (refl, all_neg_rule (at o.0) k a f h)
   placed_fits rule ls alternatives (mat_rule i j c a s t ss ts h0 h1) ps e = let o = two_literals ps _ _ e in subst (IsPlacedRule rule ls alternatives) (sym o.2) (refl, mat_rule (at o.0) (at o.1) c a s t ss ts h0 h1)

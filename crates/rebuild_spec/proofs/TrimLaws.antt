@@ -12,7 +12,7 @@ use Rattle.stt_core.proofs.ListLaws.{map-append}
 use Rattle.tableau_calculus.specs.Literals.{Literal, IsLiteral, IsBranch}
 use Rattle.tableau_calculus.specs.Witnesses.{Row, with_rows, IsTableAfter, IsTable}
 use Rattle.tableau_calculus.specs.RuleUses.{principals_of}
-use Rattle.tableau_calculus.specs.Rules.{PlainRule, Rule, AreAt, false_rule, close_rule, refl_rule, imp_pos_rule, imp_neg_rule, bool_pos_rule, bool_neg_rule, fun_pos_rule, fun_neg_rule, all_pos_rule, all_neg_rule, mat_rule, dec_rule, con_rule, cho_rule, des_rule, cut_rule}
+use Rattle.tableau_calculus.specs.Rules.{PlainRule, Rule, AreAt, alone_rule, close_rule, all_pos_rule, all_neg_rule, mat_rule, dec_rule, con_rule, cho_rule, des_rule, cut_rule}
 use Rattle.tableau_calculus.specs.Accepted.{IsTypedUse, IsRightLine, AreRightLines}
 use Rattle.tableau_calculus.specs.declared.rule_use.RuleUse.TheVariants.{AtOne, AtTwo, AllPos, WithPredicate, Cut}
 use Rattle.tableau_calculus.specs.declared.refutation.Line.{Line}
@@ -139,15 +139,8 @@ module _ (scope : Scope) (rows : List Row) (n : ℕ) where
     row_kept k r h b = let found = row_found scope [] rows k r table h in get-take n rows k r (omega (arith, found, b)) h
 
     rule_kept : (branch : List Literal) (rule : PlainRule) (principals : List Literal) (alternatives : List (List Literal)) → Rule (with_rows scope rows) rows rule principals alternatives → AreAt branch (principals_of rule) principals → rows_for_all principals ≤ n → rows_for_rule rows branch rule ≤ n → Rule (with_rows scope (take n rows)) (take n rows) rule principals alternatives
-    rule_kept branch rule principals alternatives (false_rule i) at below few = false_rule i
+    rule_kept branch rule principals alternatives (alone_rule i kind l as' h) at below few = alone_rule i kind l as' h
     rule_kept branch rule principals alternatives (close_rule i j l) at below few = close_rule i j l
-    rule_kept branch rule principals alternatives (refl_rule i a s) at below few = refl_rule i a s
-    rule_kept branch rule principals alternatives (imp_pos_rule i s t) at below few = imp_pos_rule i s t
-    rule_kept branch rule principals alternatives (imp_neg_rule i s t) at below few = imp_neg_rule i s t
-    rule_kept branch rule principals alternatives (bool_pos_rule i s t) at below few = bool_pos_rule i s t
-    rule_kept branch rule principals alternatives (bool_neg_rule i s t) at below few = bool_neg_rule i s t
-    rule_kept branch rule principals alternatives (fun_pos_rule i a b s t) at below few = fun_pos_rule i a b s t
-    rule_kept branch rule principals alternatives (fun_neg_rule i a b s t) at below few = fun_neg_rule i a b s t
     rule_kept branch rule principals alternatives (all_pos_rule i a f u h) at below few = all_pos_rule i a f u (term_kept [] a u few h)
     rule_kept branch rule principals alternatives (all_neg_rule i k a f h) at below few = all_neg_rule i k a f (row_kept k (record { type = a; predicate = f }) h (subst (λ o. rows_up_to_principal rows o ≤ n) at.0 few))
     rule_kept branch rule principals alternatives (mat_rule i j c a s t ss ts h0 h1) at below few = mat_rule i j c a s t ss ts h0 (constant_kept c (Some a) (head_below c (s ∷ ss) (omega (arith, below))) h1)

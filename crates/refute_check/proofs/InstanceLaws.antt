@@ -19,7 +19,7 @@ use Rattle.term_bank.specs.Laws.{EqualIdsForEqualTerms}
 use Rattle.term_bank.proofs.ListLaws.{map-same, get_or-front}
 use Rattle.literal_map.specs.Atoms.{Begins}
 use Rattle.literal_map.specs.Numbers.{UseByNumbers}
-use Rattle.search_spec.specs.Each.{Each}
+use Rattle.tableau_calculus.specs.Each.{Each}
 use Rattle.witness_names.specs.Rows.{row_of, rows_of, AreRows}
 use Rattle.tableau_rules.specs.Uses.{use_of, IsInstanceBy}
 use Rattle.tableau_rules.specs.Changes.{Widens, HasWitness, denial_of, AreWitnessesAfter, AreWitnessesBy}

@@ -24,7 +24,7 @@ use Rattle.bank_normal.proofs.RightLaws.{right_grown}
 use Rattle.literal_map.proofs.StayLaws.{atoms_stay, literals_same}
 use Rattle.witness_names.specs.Rows.{rows_of, AreRows}
 use Rattle.witness_names.proofs.StayLaws.{rows_same, rows_grown}
-use Rattle.search_spec.specs.Each.{Each}
+use Rattle.tableau_calculus.specs.Each.{Each}
 use Rattle.refute_check.specs.declared.shared.Shared.{Shared}
 use Rattle.refute_check.specs.Internal.Numbers.{number_in}
 use Rattle.refute_check.specs.Internal.Branches.{Grow, AreNumberedBranch}

@@ -12,7 +12,7 @@ use Rattle.tableau_calculus.proofs.AddedLaws.{contains_cases-added, contains-add
 use Rattle.term_bank.specs.Terms.{term_at}
 use Rattle.literal_map.specs.Atoms.{bank_atom}
 use Rattle.problem_start.specs.Unfolds.{AreStartNumbers}
-use Rattle.search_spec.specs.Each.{Each}
+use Rattle.tableau_calculus.specs.Each.{Each}
 use Rattle.refute_check.specs.Internal.Numbers.{number_in}
 use Rattle.refute_check.specs.Internal.Branches.{branch_has, Represents, AreNumberedBranch}
 use Rattle.refute_check.specs.declared.branch.Branch.{Branch}

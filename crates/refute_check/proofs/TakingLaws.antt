@@ -7,7 +7,7 @@ use Rattle.stt_core.specs.Typing.{Scope}
 use Rattle.tableau_calculus.specs.Literals.{Literal}
 use Rattle.tableau_calculus.specs.Witnesses.{Row}
 use Rattle.tableau_calculus.specs.RuleUses.{principals_of, EachPart}
-use Rattle.tableau_calculus.specs.Rules.{PlainRule, Rule, AreAt, IsInstance, false_rule, close_rule, refl_rule, imp_pos_rule, imp_neg_rule, bool_pos_rule, bool_neg_rule, fun_pos_rule, fun_neg_rule, all_pos_rule, all_neg_rule, mat_rule, dec_rule, con_rule, cho_rule, des_rule, cut_rule}
+use Rattle.tableau_calculus.specs.Rules.{PlainRule, Rule, AreAt, IsInstance, alone_rule, close_rule, all_pos_rule, all_neg_rule, mat_rule, dec_rule, con_rule, cho_rule, des_rule, cut_rule}
 use Rattle.tableau_calculus.specs.declared.rule_use.OnePlace.{OnePlace}
 use Rattle.tableau_calculus.specs.declared.rule_use.TwoPlaces.{TwoPlaces}
 use Rattle.tableau_calculus.specs.declared.rule_use.OfPredicate.{OfPredicate}
@@ -15,7 +15,7 @@ use Rattle.tableau_calculus.specs.declared.rule_use.RuleUse.TheVariants.{AtOne, 
 use Rattle.term_bank.specs.Content.{HasTerm}
 use Rattle.term_bank.proofs.GrowLaws.{has_within, has_at}
 use Rattle.literal_map.specs.Numbers.{UseByNumbers}
-use Rattle.search_spec.specs.Each.{Each}
+use Rattle.tableau_calculus.specs.Each.{Each}
 use Rattle.tableau_rules.specs.Uses.{use_of}
 use Rattle.refute_check.specs.declared.shared.Shared.{Shared}
 use Rattle.refute_check.specs.declared.taking.Taking.TheVariants.{Missing, By}
@@ -33,15 +33,8 @@ moved i j (Cut l) = Cut l
 
 module _ (scope : Scope) (rows : List Row) (i j : ℕ) where
   rule_moved : (r : PlainRule) (ps : List Literal) (as' : List (List Literal)) → Rule scope rows r ps as' → Rule scope rows (moved i j r) ps as'
-  rule_moved _ _ _ (false_rule k) = false_rule i
+  rule_moved _ _ _ (alone_rule k kind l as' h) = alone_rule i kind l as' h
   rule_moved _ _ _ (close_rule k m l) = close_rule i j l
-  rule_moved _ _ _ (refl_rule k a s) = refl_rule i a s
-  rule_moved _ _ _ (imp_pos_rule k s t) = imp_pos_rule i s t
-  rule_moved _ _ _ (imp_neg_rule k s t) = imp_neg_rule i s t
-  rule_moved _ _ _ (bool_pos_rule k s t) = bool_pos_rule i s t
-  rule_moved _ _ _ (bool_neg_rule k s t) = bool_neg_rule i s t
-  rule_moved _ _ _ (fun_pos_rule k a b s t) = fun_pos_rule i a b s t
-  rule_moved _ _ _ (fun_neg_rule k a b s t) = fun_neg_rule i a b s t
   rule_moved _ _ _ (all_pos_rule k a f u h) = all_pos_rule i a f u h
   rule_moved _ _ _ (all_neg_rule k n a f h) = all_neg_rule i n a f h
   rule_moved _ _ _ (mat_rule k m c a s t ss ts d e) = mat_rule i j c a s t ss ts d e

@@ -4,7 +4,7 @@ pub use Rattle.refute_print.specs.TextView
 pub use Rattle.refute_print.specs.TreeView
 pub use Rattle.refute_print.specs.Trees
 pub use Rattle.refute_print.specs.View as RefutePrintView
-pub use Rattle.search_spec.specs.Each
+pub use Rattle.tableau_calculus.specs.Each
 pub use Rattle.stt_core.specs.Canonical
 pub use Rattle.stt_core.specs.Declarations
 pub use Rattle.stt_core.specs.Lambda

@@ -5,7 +5,7 @@ ghost use Rattle.tableau_calculus.specs.Literals.{Literal};
 ghost use Rattle.stt_core.specs.Lambda.{Lambda};
 ghost use Rattle.tableau_calculus.specs.Accepted.{IsClosedBranch, ClosesBy, AreChildren};
 ghost use Rattle.tableau_calculus.specs.declared.refutation.Line.{Line};
-ghost use Rattle.search_spec.specs.Each.{Each};
+ghost use Rattle.tableau_calculus.specs.Each.{Each};
 ghost use Rattle.refute_check.specs.Internal.Branches.{Represents, AreNumberedBranch, AreBranches};
 ghost use Rattle.refute_check.specs.Internal.Shared.{shared_atoms, literal_in, IsGoodShared, IsSharedNumber};
 

@@ -1,7 +1,7 @@
 //! Branches of numbered literals.
 
 ghost use Rattle.std.specs.Prelude.{◌≡◌, map, OnOk, IfOk, slice_get};
-ghost use Rattle.search_spec.specs.Each.{Each};
+ghost use Rattle.tableau_calculus.specs.Each.{Each};
 ghost use Rattle.refute_check.specs.Numbered.{numbered_literal};
 ghost use Rattle.refute_check.specs.Internal.Branches.{Represents, AreNumberedBranch};
 ghost use Rattle.refute_check.specs.Internal.Seen.{IsSeen};

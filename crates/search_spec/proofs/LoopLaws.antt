@@ -8,7 +8,7 @@ use Rattle.search_spec.specs.Queue.{new_entries, first_waiting, next_command, wi
 use Rattle.command_queue.specs.declared.entry.Entry.{Entry}
 use Rattle.command_queue.specs.Queue.{comes_before}
 use Rattle.search_spec.specs.Internal.Loops.{Loop, entries, first_entry, queue_of, loop_left, loops_after, IsFirstOrNone}
-use Rattle.search_spec.specs.Each.{Each}
+use Rattle.tableau_calculus.specs.Each.{Each}
 use Rattle.search_spec.proofs.NamingLaws.{pick}
 
 weaker : (a c x y : Bool) → (x ≡ false → y ≡ false) → (a || (c && x)) ≡ false → (a || (c && y)) ≡ false

@@ -3,7 +3,7 @@ use Rattle.std.specs.Prelude.{◌≡◌, Bool, true, false, not, List, [], ◌�
 use Rattle.std.specs.List.{list_any, flat_map}
 use Rattle.std.proofs.Common.{sym, ap, ◌∙◌}
 use Rattle.stt_core.proofs.ListLaws.{map-append}
-use Rattle.search_spec.specs.Each.{Each}
+use Rattle.tableau_calculus.specs.Each.{Each}
 use Rattle.search_spec.specs.Clauses.{choices, is_tautology, clause_of, instance_clauses, same_clause, with_clauses}
 use Rattle.tableau_calculus.specs.Kinds.{Kind, has, added}
 

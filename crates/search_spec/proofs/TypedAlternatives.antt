@@ -9,13 +9,13 @@ use Rattle.stt_core.proofs.TypeLaws.{constant_declared}
 use Rattle.normal_forms.specs.Normal.{eta, apply}
 use Rattle.tableau_calculus.specs.Literals.{Literal, opposite, as_literal, IsLiteral, IsBranch}
 use Rattle.tableau_calculus.specs.Witnesses.{Row}
-use Rattle.tableau_calculus.specs.Rules.{PlainRule, Rule, false_rule, close_rule, refl_rule, imp_pos_rule, imp_neg_rule, bool_pos_rule, bool_neg_rule, fun_pos_rule, fun_neg_rule, all_pos_rule, all_neg_rule, mat_rule, dec_rule, con_rule, cho_rule, des_rule, cut_rule, agreement, nowhere, chosen, at_most_once, described, differ_each}
+use Rattle.tableau_calculus.specs.Rules.{PlainRule, Rule, alone_rule, close_rule, all_pos_rule, all_neg_rule, mat_rule, dec_rule, con_rule, cho_rule, des_rule, cut_rule, agreement, nowhere, chosen, at_most_once, described, differ_each}
 use Rattle.tableau_calculus.proofs.LiteralLaws.{imp_canonical, as_literal-is_literal, opposite-is_literal}
 use Rattle.tableau_calculus.proofs.EquationLaws.{eq_canonical, differ-is_literal}
 use Rattle.tableau_calculus.proofs.FunctionLaws.{every_canonical, canonical-agreement, canonical-nowhere, canonical-chosen, canonical-at_most_once, canonical-described, canonical-applied}
 use Rattle.tableau_calculus.proofs.DecompositionLaws.{Takes, arguments_taken}
 use Rattle.tableau_calculus.proofs.RuleLaws.{canonical-witness}
-use Rattle.search_spec.specs.Each.{Each}
+use Rattle.tableau_calculus.specs.Each.{Each}
 
 module _ (scope : Scope) where
   lit : (t : Lambda) → IsCanonical scope [] formula t → IsLiteral scope (as_literal t)
@@ -33,27 +33,8 @@ module _ (scope : Scope) where
       ((differ-is_literal scope c s t (record { declared = p.0; left = hs.0; right = ht.0 }), tt), differ_typed e b ss ts p.1 hs.1 ht.1)
 
   pub alternatives_typed : IsScope scope → (rows : List Row) → scope.witnesses ≡ map (λ r. r.type) rows → (rule : PlainRule) (principals : List Literal) (alternatives : List (List Literal)) → Rule scope rows rule principals alternatives → IsBranch scope principals → Each (IsBranch scope) alternatives
-  alternatives_typed over rows types _ _ _ (false_rule i) typed = tt
+  alternatives_typed over rows types _ _ _ (alone_rule i kind l alternatives h) typed = alone_typed scope kind l alternatives h typed.0
   alternatives_typed over rows types _ _ _ (close_rule i j l) typed = tt
-  alternatives_typed over rows types _ _ _ (refl_rule i a s) typed = tt
-  alternatives_typed over rows types _ _ _ (imp_pos_rule i s t) typed =
-      let sides = imp_canonical scope s t typed.0.formula in
-      ((denied s sides.0, tt), ((lit t sides.1, tt), tt))
-  alternatives_typed over rows types _ _ _ (imp_neg_rule i s t) typed =
-      let sides = imp_canonical scope s t typed.0.formula in
-      ((lit s sides.0, (denied t sides.1, tt)), tt)
-  alternatives_typed over rows types _ _ _ (bool_pos_rule i s t) typed =
-      let sides = eq_canonical scope formula s t typed.0.formula in
-      ((lit s sides.left, (lit t sides.right, tt)), ((denied s sides.left, (denied t sides.right, tt)), tt))
-  alternatives_typed over rows types _ _ _ (bool_neg_rule i s t) typed =
-      let sides = eq_canonical scope formula s t typed.0.formula in
-      ((lit s sides.left, (denied t sides.right, tt)), ((denied s sides.left, (lit t sides.right, tt)), tt))
-  alternatives_typed over rows types _ _ _ (fun_pos_rule i a b s t) typed =
-      let c = canonical-agreement scope a b s t (eq_canonical scope (arrow a b) s t typed.0.formula) in
-      ((lit (agreement a b s t) c, tt), tt)
-  alternatives_typed over rows types _ _ _ (fun_neg_rule i a b s t) typed =
-      let c = canonical-agreement scope a b s t (eq_canonical scope (arrow a b) s t typed.0.formula) in
-      ((denied (agreement a b s t) c, tt), tt)
   alternatives_typed over rows types _ _ _ (all_pos_rule i a f u c) typed =
       let e = every_canonical scope a f typed.0.formula in
       ((lit (apply f u) (canonical-applied scope a f u e.1 c), tt), tt)

@@ -11,7 +11,7 @@ use Rattle.tableau_calculus.specs.Rules.{all_pos_rule, mat_rule, con_rule, cho_r
 use Rattle.tableau_calculus.specs.declared.rule_use.RuleUse.TheVariants.{AtTwo, AllPos, WithPredicate}
 use Rattle.tableau_calculus.specs.declared.rule_use.TwoPlaces.TheVariants.{Mat, Con}
 use Rattle.tableau_calculus.specs.declared.rule_use.OfPredicate.TheVariants.{Cho, Des}
-use Rattle.search_spec.specs.Each.{Each}
+use Rattle.tableau_calculus.specs.Each.{Each}
 use Rattle.search_spec.specs.Shallow.{is_shallow, is_shallow_literal}
 use Rattle.search_spec.specs.Spine.{head_of, arguments}
 use Rattle.search_spec.specs.Queue.{first_waiting, next_command}

@@ -7,7 +7,7 @@ use Rattle.stt_core.specs.Lambda.{name, witness, falsity, negation, implication,
 use Rattle.stt_core.specs.Typing.{Scope, IsScope, AreDeclared}
 use Rattle.stt_core.specs.Canonical.{IsFrom}
 use Rattle.stt_core.proofs.TypeLaws.{get_declared, constant_declared}
-use Rattle.search_spec.specs.Each.{Each}
+use Rattle.tableau_calculus.specs.Each.{Each}
 use Rattle.search_spec.specs.Partial.{Partial, hole, head, function, application, Hole, or_else, first_hole}
 use Rattle.search_spec.specs.TypedPartial.{IsPartial, IsPartialSpine}
 use Rattle.search_spec.specs.Heads.{HeadOffers, places_to, bases_from, is_offered, is_offered_base, offered_bases, given_heads, is_none_given, logical_heads, fitting_heads}

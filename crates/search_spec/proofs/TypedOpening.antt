@@ -10,7 +10,7 @@ use Rattle.stt_core.proofs.TypeLaws.{type_of-neutral, constant_declared, same_ty
 use Rattle.normal_forms.specs.Normal.{eta}
 use Rattle.normal_forms.proofs.NormalValues.{canonical-eta}
 use Rattle.tableau_calculus.specs.Witnesses.{Row, with_rows}
-use Rattle.search_spec.specs.Each.{Each}
+use Rattle.tableau_calculus.specs.Each.{Each}
 use Rattle.search_spec.specs.Partial.{Partial, head, Hole, first_hole, with_filling, whole_term, blank_partial, with_holes}
 use Rattle.search_spec.specs.TypedPartial.{IsPartial, IsPartialSpine}
 use Rattle.search_spec.specs.Heads.{HeadOffers, fitting_heads, heads_for}

@@ -8,7 +8,7 @@ use Rattle.stt_core.specs.Typing.{Scope, constant_type}
 use Rattle.stt_core.specs.Canonical.{IsCanonical, IsNeutral}
 use Rattle.tableau_calculus.specs.Literals.{Literal, IsLiteral}
 use Rattle.tableau_calculus.specs.Kinds.{same_sign}
-use Rattle.search_spec.specs.Each.{Each}
+use Rattle.tableau_calculus.specs.Each.{Each}
 use Rattle.search_spec.specs.Spine.{head_of, arguments, is_spine, same_head}
 use Rattle.search_spec.specs.Partners.{partners, equates_on, has_equal_sides, positive_first, matings, confrontations}
 use Rattle.search_spec.specs.State.{mate, confront}

@@ -9,12 +9,13 @@ use Rattle.stt_core.specs.Canonical.{IsBase, IsCanonical}
 use Rattle.stt_core.proofs.TypeLaws.{same_type-true}
 use Rattle.tableau_calculus.specs.Literals.{Literal, plus, minus, IsLiteral, IsBranch}
 use Rattle.tableau_calculus.specs.Witnesses.{Row, with_rows}
-use Rattle.tableau_calculus.specs.Rules.{differ_each, bool_pos_rule, bool_neg_rule, fun_pos_rule, fun_neg_rule, dec_rule, Alternatives, bool_pos, bool_neg, fun_pos, fun_neg, differ}
+use Rattle.tableau_calculus.specs.Rules.{differ_each, bool_pos_alone, bool_neg_alone, fun_pos_alone, fun_neg_alone, dec_rule, Alternatives, bool_pos, bool_neg, fun_pos, fun_neg, differ}
 use Rattle.tableau_calculus.specs.declared.rule_use.RuleUse.TheVariants.{AtOne}
 use Rattle.tableau_calculus.specs.declared.rule_use.OnePlace.TheVariants.{BoolPos, BoolNeg, FunPos, FunNeg, Dec}
+use Rattle.tableau_calculus.proofs.AloneLaws.{alone_typed}
 use Rattle.tableau_calculus.proofs.EquationLaws.{eq_canonical}
 use Rattle.tableau_calculus.proofs.FunctionLaws.{every_canonical}
-use Rattle.search_spec.specs.Each.{Each}
+use Rattle.tableau_calculus.specs.Each.{Each}
 use Rattle.search_spec.specs.Spine.{head_of, arguments, is_spine, same_head}
 use Rattle.search_spec.specs.State.{State, Setting, Typed, inst, with_commands}
 use Rattle.search_spec.specs.Instances.{with_instance}
@@ -99,14 +100,14 @@ module _ (setting : Setting) (rows : List Row) (good : IsScope (with_rows settin
           with_instance-typed setting rows (minus (eq b s t) ∷ []) (alternatives st.rows) st (subst A (sym g.are_rows) (typed e)) g
 
   pub equated-typed : (a : SimpleType) (sign : Bool) (s t : Lambda) (st : State) → IsLiteral over (record { positive = sign; atom = eq a s t }) → Good st → Good (with_equation setting a sign s t st)
-  equated-typed (base zero) true s t st h g = with_instance-typed setting rows (plus (eq formula s t) ∷ []) (bool_pos s t) st (alternatives_typed over good rows refl (AtOne BoolPos 0) _ _ (bool_pos_rule 0 s t) (h, tt)) g
-  equated-typed (base zero) false s t st h g = with_instance-typed setting rows (minus (eq formula s t) ∷ []) (bool_neg s t) st (alternatives_typed over good rows refl (AtOne BoolNeg 0) _ _ (bool_neg_rule 0 s t) (h, tt)) g
-  equated-typed (arrow a b) true s t st h g = with_instance-typed setting rows (plus (eq (arrow a b) s t) ∷ []) (fun_pos a b s t) st (alternatives_typed over good rows refl (AtOne FunPos 0) _ _ (fun_pos_rule 0 a b s t) (h, tt)) g
+  equated-typed (base zero) true s t st h g = with_instance-typed setting rows (plus (eq formula s t) ∷ []) (bool_pos s t) st (alone_typed over BoolPos _ _ (bool_pos_alone s t) h) g
+  equated-typed (base zero) false s t st h g = with_instance-typed setting rows (minus (eq formula s t) ∷ []) (bool_neg s t) st (alone_typed over BoolNeg _ _ (bool_neg_alone s t) h) g
+  equated-typed (arrow a b) true s t st h g = with_instance-typed setting rows (plus (eq (arrow a b) s t) ∷ []) (fun_pos a b s t) st (alone_typed over FunPos _ _ (fun_pos_alone a b s t) h) g
   equated-typed (arrow a b) false s t st h g =
       let c = arrow a b in
       let sides = eq_canonical over c s t h.formula in
       let us = offered_sides setting.mode s t in
-      with_instance-typed setting rows (minus (eq c s t) ∷ []) (fun_neg a b s t) (with_terms setting.mode c us st) (alternatives_typed over good rows refl (AtOne FunNeg 0) _ _ (fun_neg_rule 0 a b s t) (h, tt))
+      with_instance-typed setting rows (minus (eq c s t) ∷ []) (fun_neg a b s t) (with_terms setting.mode c us st) (alone_typed over FunNeg _ _ (fun_neg_alone a b s t) h)
       (with_terms-typed setting rows c us st (pick_good (Each (IsCanonical over [] c)) (offers_terms setting.mode) (s ∷ t ∷ []) [] (sides.left, (sides.right, tt)) tt) g)
   equated-typed (base (suc n)) true s t st h g = confronted-typed n true s t st h g
   equated-typed (base (suc n)) false s t st h g =

@@ -21,7 +21,7 @@ use Rattle.tableau_calculus.specs.Rules.{Alternatives}
 use Rattle.search_spec.specs.Instances.{with_literal, with_literals, with_instance}
 use Rattle.search_spec.specs.Terms.{terms_of, ranges_over, universals, with_term, with_terms, first_terms}
 use Rattle.search_spec.specs.TypedState.{IsTypedCommand, IsTypedStateWith}
-use Rattle.search_spec.specs.Each.{Each}
+use Rattle.tableau_calculus.specs.Each.{Each}
 use Rattle.search_spec.proofs.NamingLaws.{each-joined, pick_good}
 
 -- what holds of each command holds of each waiting one

@@ -3,7 +3,7 @@ use Rattle.std.specs.Prelude.{◌≡◌, ℕ, Bool, true, false, List, [], ◌�
 use Rattle.std.specs.List.{list_any, position_or_len}
 use Rattle.std.proofs.Common.{sym, ap, ◌∙◌, subst, eqb-true}
 use Rattle.stt_core.specs.SimpleType.{SimpleType, formula, target}
-use Rattle.stt_core.specs.Lambda.{witness, falsity, implication, all, equality, Lambda, constant, app, imp, eq, every}
+use Rattle.stt_core.specs.Lambda.{witness, all, equality, Lambda, constant, app, eq, every}
 use Rattle.stt_core.specs.Typing.{Scope, IsScope, constant_type}
 use Rattle.stt_core.specs.Canonical.{IsCanonical}
 use Rattle.stt_core.specs.SameTerm.{same_term}
@@ -12,11 +12,13 @@ use Rattle.stt_core.proofs.ListLaws.{mapped_get, slice_get-end}
 use Rattle.stt_core.proofs.TypeLaws.{constant_declared}
 use Rattle.tableau_calculus.specs.Literals.{Literal, plus, minus, IsLiteral, IsBranch}
 use Rattle.tableau_calculus.specs.Witnesses.{Row, with_rows, IsTable}
-use Rattle.tableau_calculus.specs.Rules.{imp_pos_rule, imp_neg_rule, all_neg_rule, imp_pos, imp_neg, all_neg}
+use Rattle.tableau_calculus.specs.Rules.{Alternatives, all_neg_rule, all_neg}
 use Rattle.tableau_calculus.specs.declared.rule_use.RuleUse.TheVariants.{AtOne}
-use Rattle.tableau_calculus.specs.declared.rule_use.OnePlace.TheVariants.{ImpPos, ImpNeg, AllNeg}
+use Rattle.tableau_calculus.specs.declared.rule_use.OnePlace.{OnePlace}
+use Rattle.tableau_calculus.specs.declared.rule_use.OnePlace.TheVariants.{AllNeg}
+use Rattle.tableau_calculus.proofs.AloneLaws.{alone_typed}
 use Rattle.tableau_calculus.proofs.FunctionLaws.{every_canonical}
-use Rattle.search_spec.specs.Each.{Each}
+use Rattle.tableau_calculus.specs.Each.{Each}
 use Rattle.search_spec.specs.Partial.{Hole, first_hole}
 use Rattle.search_spec.specs.State.{State, Setting, grow, scope_in}
 use Rattle.search_spec.specs.Instances.{with_instance}
@@ -24,9 +26,10 @@ use Rattle.search_spec.specs.Terms.{with_terms}
 use Rattle.search_spec.specs.Offers.{takes_witness, offered_witness}
 use Rattle.search_spec.specs.Selections.{selections_in, with_selections}
 use Rattle.search_spec.specs.Witness.{same_row, witness_of, is_hole_of, has_hole_of, with_new_witness, with_denied}
-use Rattle.search_spec.specs.Processing.{with_equation, with_rules, with_processing}
+use Rattle.search_spec.specs.Processing.{with_equation, connective_rule, with_connective, with_rules, with_processing}
 use Rattle.search_spec.specs.TypedState.{GrowsSketch, IsTypedSketch, IsTypedCommand, IsTypedStateWith, IsTypedState}
 use Rattle.search_spec.proofs.NamingLaws.{pick_good}
+use Rattle.search_spec.proofs.ConnectiveLaws.{connective_alone}
 use Rattle.search_spec.proofs.TypedAlternatives.{alternatives_typed}
 use Rattle.search_spec.proofs.TypedPushes.{each_mapped, each_filtered, pushed-typed, with_instance-typed, with_terms-typed}
 use Rattle.search_spec.proofs.TypedOpening.{witness-typed}
@@ -120,12 +123,13 @@ module _ (setting : Setting) (over : IsScope setting.scope) where
         by_test true e = same_rows s state (minus (every a f)) (added s) h (known_witness s state a f h e)
         by_test false e = new_witness a f h e
 
+  connected-typed : (sign : Bool) (t : Lambda) (s : State) (state : IsTypedState setting s) (h : IsLiteral (scope_in setting s) (record { positive = sign; atom = t })) (o : Option (OnePlace × Alternatives)) → connective_rule t sign ≡ o → Worked setting (record { positive = sign; atom = t }) (with_connective setting (record { positive = sign; atom = t }) o s)
+  connected-typed sign t s state h None e = same_rows s state (record { positive = sign; atom = t }) _ h (mated-typed setting s.rows (good s state) (record { positive = sign; atom = t }) s h state.typed)
+  connected-typed sign t s state h (Some rule) e =
+      let l : Literal = record { positive = sign; atom = t } in
+      same_rows s state l _ h (with_instance-typed setting s.rows (l ∷ []) rule.1 s (alone_typed (scope_in setting s) rule.0 l rule.1 (connective_alone t sign rule e) h) state.typed)
+
   worked-typed : (sign : Bool) (t : Lambda) (s : State) → IsTypedState setting s → IsLiteral (scope_in setting s) (record { positive = sign; atom = t }) → Worked setting (record { positive = sign; atom = t }) (with_rules setting sign t s)
-  worked-typed true (constant falsity) s state h = same_rows s state (plus (constant falsity)) _ h (with_instance-typed setting s.rows (plus (constant falsity) ∷ []) [] s tt state.typed)
-  worked-typed true (app (app (constant implication) u) v) s state h =
-      same_rows s state (plus (imp u v)) _ h (with_instance-typed setting s.rows (plus (imp u v) ∷ []) (imp_pos u v) s (alternatives_typed (scope_in setting s) (good s state) s.rows refl (AtOne ImpPos 0) _ _ (imp_pos_rule 0 u v) (h, tt)) state.typed)
-  worked-typed false (app (app (constant implication) u) v) s state h =
-      same_rows s state (minus (imp u v)) _ h (with_instance-typed setting s.rows (minus (imp u v) ∷ []) (imp_neg u v) s (alternatives_typed (scope_in setting s) (good s state) s.rows refl (AtOne ImpNeg 0) _ _ (imp_neg_rule 0 u v) (h, tt)) state.typed)
   worked-typed true (app (app (constant (equality a)) u) v) s state h = same_rows s state (plus (eq a u v)) _ h (equated-typed setting s.rows (good s state) a true u v s h state.typed)
   worked-typed false (app (app (constant (equality a)) u) v) s state h =
       same_rows s state (minus (eq a u v)) _ h
@@ -134,7 +138,7 @@ module _ (setting : Setting) (over : IsScope setting.scope) where
       (equated-typed setting s.rows (good s state) a false u v s h state.typed))
   worked-typed true (app (constant (all a)) f) s state h = same_rows s state (plus (every a f)) _ h (quantified-typed setting s.rows (good s state) a f s h state.typed)
   worked-typed false (app (constant (all a)) f) s state h = denied-typed s state a f h
-  worked-typed sign t s state h = same_rows s state (record { positive = sign; atom = t }) _ h (mated-typed setting s.rows (good s state) (record { positive = sign; atom = t }) s h state.typed)
+  worked-typed sign t s state h = connected-typed sign t s state h (connective_rule t sign) refl
 
   branch_last : (scope : Scope) (ls : List Literal) (l : Literal) → IsBranch scope ls → IsLiteral scope l → IsBranch scope (ls ++ l ∷ [])
   branch_last scope [] l h k = (k, tt)

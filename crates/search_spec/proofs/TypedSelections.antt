@@ -10,7 +10,7 @@ use Rattle.stt_core.specs.Canonical.{IsFrom, IsCanonical, IsNeutral}
 use Rattle.stt_core.specs.SameTerm.{same_term}
 use Rattle.stt_core.proofs.TypeLaws.{given}
 use Rattle.tableau_calculus.specs.Witnesses.{Row, with_rows}
-use Rattle.search_spec.specs.Each.{Each}
+use Rattle.tableau_calculus.specs.Each.{Each}
 use Rattle.search_spec.specs.Closed.{is_bound_by, is_closed}
 use Rattle.search_spec.specs.Selections.{Selection, by_choice, by_description, selection_by, selections_in, with_selection, with_selections}
 use Rattle.search_spec.specs.State.{State, Setting, choose, describe, with_commands}

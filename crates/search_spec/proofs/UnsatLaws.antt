@@ -14,7 +14,7 @@ use Rattle.sat_base.specs.declared.literal.SatLit.{SatLit}
 use Rattle.sat_base.specs.Truth.{literal_value, clause_value, only, Unsat}
 use Rattle.search_spec.specs.Unsatisfiable.{is_true_where, is_false, Unsatisfiable}
 use Rattle.search_spec.specs.Numbered.{numbers, atom_at, literal_at, IsNumber, AreApart}
-use Rattle.search_spec.specs.Each.{Each}
+use Rattle.tableau_calculus.specs.Each.{Each}
 use Rattle.search_spec.proofs.NamingLaws.{StandFor, either, pick}
 
 turned : (p q a : Bool) → (same_sign p q && a) ≡ (a && beq p q)

@@ -8,7 +8,7 @@ use Rattle.stt_core.specs.Canonical.{IsCanonical, IsNeutral}
 use Rattle.stt_core.proofs.ListLaws.{map-append, slice_get-append}
 use Rattle.tableau_calculus.specs.Literals.{Literal, IsLiteral, IsBranch}
 use Rattle.tableau_calculus.specs.Witnesses.{Row, with_rows}
-use Rattle.search_spec.specs.Each.{Each}
+use Rattle.tableau_calculus.specs.Each.{Each}
 use Rattle.search_spec.specs.Partial.{Partial, hole, head, function, application}
 use Rattle.search_spec.specs.TypedPartial.{IsPartial, IsPartialSpine}
 use Rattle.command_queue.specs.declared.entry.Entry.{Entry}

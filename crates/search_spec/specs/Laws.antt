@@ -7,7 +7,7 @@ use Rattle.tableau_calculus.specs.Literals.{Literal, IsBranch}
 use Rattle.tableau_calculus.specs.Witnesses.{with_rows}
 use Rattle.sat_base.specs.declared.literal.SatLit.{SatLit}
 use Rattle.sat_base.specs.Truth.{Unsat}
-use Rattle.search_spec.specs.Each.{Each}
+use Rattle.tableau_calculus.specs.Each.{Each}
 use Rattle.search_spec.specs.Clauses.{instance_clauses, with_clauses}
 use Rattle.search_spec.specs.Unsatisfiable.{Unsatisfiable}
 use Rattle.tableau_calculus.specs.Kinds.{formulas}

@@ -10,11 +10,11 @@ pub use Rattle.stt_core.specs.Occurrence
 pub use Rattle.stt_core.specs.SameTerm
 pub use Rattle.stt_core.specs.SimpleType
 pub use Rattle.stt_core.specs.Typing
+pub use Rattle.tableau_calculus.specs.Each
 pub use Rattle.tableau_calculus.specs.Kinds
 pub use Rattle.tableau_calculus.specs.Literals
 pub use Rattle.tableau_calculus.specs.Rules
 pub use Rattle.tableau_calculus.specs.Witnesses
-pub mod Each
 pub mod Shallow
 pub mod Closed
 pub mod Clauses

@@ -1,13 +1,15 @@
 -- What is done for a literal, by its shape.
-use Rattle.std.specs.Prelude.{zero, suc, ◌++◌, ◌&&◌, Bool, true, false, [], ◌∷◌, map, if◌then◌else◌}
+use Rattle.std.specs.Prelude.{zero, suc, ◌++◌, ◌&&◌, Bool, true, false, [], ◌∷◌, map, Option, Some, None, if◌then◌else◌}
 use Rattle.stt_core.specs.SimpleType.{SimpleType, base, arrow, formula}
-use Rattle.stt_core.specs.Lambda.{falsity, implication, all, equality, Lambda, constant, app, imp, eq, every}
+use Rattle.stt_core.specs.Lambda.{falsity, implication, all, equality, Lambda, constant, app, eq, every}
 use Rattle.stt_core.specs.Typing.{type_of}
 use Rattle.stt_core.specs.SameTerm.{same_term}
 use Rattle.tableau_calculus.specs.Literals.{Literal, plus, minus}
 use Rattle.search_spec.specs.Spine.{head_of, arguments, is_spine, same_head}
 use Rattle.search_spec.specs.State.{State, Setting, inst, with_commands, scope_in}
-use Rattle.tableau_calculus.specs.Rules.{imp_pos, imp_neg, bool_pos, bool_neg, fun_pos, fun_neg, differ}
+use Rattle.tableau_calculus.specs.declared.rule_use.OnePlace.{OnePlace}
+use Rattle.tableau_calculus.specs.declared.rule_use.OnePlace.TheVariants.{False, ImpPos, ImpNeg}
+use Rattle.tableau_calculus.specs.Rules.{Alternatives, imp_pos, imp_neg, bool_pos, bool_neg, fun_pos, fun_neg, differ}
 use Rattle.search_spec.specs.Instances.{with_instance}
 use Rattle.search_spec.specs.Terms.{terms_of, with_term, with_terms}
 use Rattle.search_spec.specs.Offers.{offered_sides}
@@ -50,17 +52,26 @@ with_universal setting a f state = instances (with_preparation setting a state)
 abbrev pub with_matings : Setting → Literal → State → State
 with_matings setting l state = if is_spine l.atom then with_commands setting.mode (matings l state.noted) state else state
 
+-- the rule that a literal of this sign has by the connective of its atom, with its alternatives
+abbrev pub connective_rule : Lambda → Bool → Option (OnePlace × Alternatives)
+connective_rule (constant falsity) true = Some (False, [])
+connective_rule (app (app (constant implication) s) t) true = Some (ImpPos, imp_pos s t)
+connective_rule (app (app (constant implication) s) t) false = Some (ImpNeg, imp_neg s t)
+connective_rule t sign = None
+
+-- the instance of the literal's rule, or its matings where it has none
+abbrev pub with_connective : Setting → Literal → Option (OnePlace × Alternatives) → State → State
+with_connective setting l (Some rule) state = with_instance setting.mode (l ∷ []) rule.1 state
+with_connective setting l None state = with_matings setting l state
+
 -- what is done for a literal of this sign and atom
 abbrev pub with_rules : Setting → Bool → Lambda → State → State
-with_rules setting true (constant falsity) state = with_instance setting.mode (plus (constant falsity) ∷ []) [] state
-with_rules setting true (app (app (constant implication) s) t) state = with_instance setting.mode (plus (imp s t) ∷ []) (imp_pos s t) state
-with_rules setting false (app (app (constant implication) s) t) state = with_instance setting.mode (minus (imp s t) ∷ []) (imp_neg s t) state
 with_rules setting true (app (app (constant (equality a)) s) t) state = with_equation setting a true s t state
 with_rules setting false (app (app (constant (equality a)) s) t) state =
     if same_term s t then with_instance setting.mode (minus (eq a s t) ∷ []) [] state else with_equation setting a false s t state
 with_rules setting true (app (constant (all a)) f) state = with_universal setting a f state
 with_rules setting false (app (constant (all a)) f) state = with_denied setting a f state
-with_rules setting sign t state = with_matings setting (record { positive = sign; atom = t }) state
+with_rules setting sign t state = with_connective setting (record { positive = sign; atom = t }) (connective_rule t sign) state
 
 -- The literal is processed: what its shape asks for is done, it is noted, and the choices and descriptions in its atom are taken up.
 abbrev pub with_processing : Setting → Literal → State → State

@@ -10,7 +10,7 @@ use Rattle.tableau_calculus.specs.Rules.{IsDecomposed}
 use Rattle.search_spec.specs.Partial.{Hole, first_hole}
 use Rattle.search_spec.specs.TypedPartial.{IsPartial}
 use Rattle.search_spec.specs.State.{State, Setting, Sketch, Command, process, mate, confront, inst, choose, describe, grow}
-use Rattle.search_spec.specs.Each.{Each}
+use Rattle.tableau_calculus.specs.Each.{Each}
 
 -- the partial term has its type, which is declared
 pub record IsTypedSketch (scope : Scope) (p : Sketch) : Type 0 where

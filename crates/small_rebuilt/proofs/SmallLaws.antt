@@ -11,7 +11,7 @@ use Rattle.sat_base.specs.Literal.{positive, negative, negated, same_literal, ho
 use Rattle.sat_base.proofs.LiteralLaws.{same_literal-true}
 use Rattle.sat_log.specs.Resolution.{without_literal, each_once, resolvent, resolved}
 use Rattle.sat_log.proofs.ChainLaws.{resolved_cases}
-use Rattle.search_spec.specs.Each.{Each}
+use Rattle.tableau_calculus.specs.Each.{Each}
 use Rattle.search_spec.proofs.NamingLaws.{each-joined, pick_good}
 use Rattle.search_spec.proofs.TypedPushes.{each_filtered}
 use Rattle.rebuild_spec.specs.Input.{clause_by, Input, literals_of}

@@ -4,7 +4,7 @@ pub use Rattle.rebuild_spec.specs.Input
 pub use Rattle.rebuild_spec.specs.Rebuilt
 pub use Rattle.refute_print.specs.Limits
 pub use Rattle.refute_print.specs.Sizes
-pub use Rattle.search_spec.specs.Each
+pub use Rattle.tableau_calculus.specs.Each
 pub use Rattle.search_spec.specs.Numbered
 pub use Rattle.stt_core.specs.Lambda
 pub use Rattle.tableau_calculus.specs.RuleUses

@@ -9,7 +9,7 @@ use Rattle.tableau_calculus.specs.declared.rule_use.RuleUse.TheVariants.{AtOne, 
 use Rattle.tableau_calculus.specs.declared.refutation.Line.{Line}
 use Rattle.tableau_calculus.specs.declared.refutation.Refutation.{Refutation}
 use Rattle.sat_base.specs.declared.literal.SatLit.{SatLit}
-use Rattle.search_spec.specs.Each.{Each}
+use Rattle.tableau_calculus.specs.Each.{Each}
 use Rattle.search_spec.specs.Numbered.{literal_at}
 use Rattle.rebuild_spec.specs.Input.{Sourced, start_unit, clause_by, Input}
 use Rattle.rebuild_spec.specs.Rebuilt.{IsRebuilt}

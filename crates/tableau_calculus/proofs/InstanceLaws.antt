@@ -9,12 +9,14 @@ use Rattle.stt_core.proofs.SpineLaws.{parts}
 use Rattle.normal_forms.specs.Normal.{eta, apply}
 use Rattle.tableau_calculus.specs.Literals.{Literal, plus, minus, as_literal, opposite, IsLiteral}
 use Rattle.tableau_calculus.specs.Witnesses.{Row}
-use Rattle.tableau_calculus.specs.Rules.{Rule, false_rule, close_rule, refl_rule, imp_pos_rule, imp_neg_rule, bool_pos_rule, bool_neg_rule, fun_pos_rule, fun_neg_rule, all_pos_rule, all_neg_rule, mat_rule, dec_rule, con_rule, IsDecomposed, differ_each, cho_rule, des_rule, cut_rule, agreement, nowhere, chosen, at_most_once, described, PlainRule, AreAt, IsInstance}
+use Rattle.tableau_calculus.specs.Rules.{Alone, false_alone, refl_alone, imp_pos_alone, imp_neg_alone, bool_pos_alone, bool_neg_alone, fun_pos_alone, fun_neg_alone, imp_pos, imp_neg, bool_pos, bool_neg, fun_pos, fun_neg, Rule, alone_rule, close_rule, all_pos_rule, all_neg_rule, mat_rule, dec_rule, con_rule, IsDecomposed, differ_each, cho_rule, des_rule, cut_rule, agreement, nowhere, chosen, at_most_once, described, PlainRule, AreAt, IsInstance}
 use Rattle.tableau_calculus.specs.RuleUses.{principals_of}
 use Rattle.tableau_calculus.specs.declared.rule_use.RuleUse.TheVariants.{AtOne, AtTwo, AllPos, WithPredicate, Cut}
+use Rattle.tableau_calculus.specs.declared.rule_use.OnePlace.{OnePlace}
 use Rattle.tableau_calculus.specs.declared.rule_use.OnePlace.TheVariants.{False, Refl, ImpPos, ImpNeg, BoolPos, BoolNeg, FunPos, FunNeg, AllNeg, Dec}
 use Rattle.tableau_calculus.specs.declared.rule_use.TwoPlaces.TheVariants.{Close, Mat, Con}
 use Rattle.tableau_calculus.specs.declared.rule_use.OfPredicate.TheVariants.{Cho, Des}
+use Rattle.tableau_calculus.proofs.AloneLaws.{AloneBy, alone_by, one_alone}
 
 -- the alternatives of a confrontation
 abbrev confronted : ℕ → Lambda → Lambda → Lambda → Lambda → List (List Literal)
@@ -27,22 +29,10 @@ AreDistinct rows = (j k : ℕ) (q r : Row) → slice_get rows j ≡ Some q → s
 
 -- what the table says of a rule, by the rule
 abbrev pub Fits : Scope → List Row → PlainRule → List Literal → List (List Literal) → Type 0
-Fits scope rows (AtOne False i) ps as' = (ps ≡ plus (constant falsity) ∷ []) × (as' ≡ [])
 Fits scope rows (AtTwo Close i j) ps as' = (l : Literal) × (ps ≡ l ∷ opposite l ∷ []) × (as' ≡ [])
-Fits scope rows (AtOne ImpPos i) ps as' = (s : Lambda) × (t : Lambda) × (ps ≡ plus (imp s t) ∷ []) × (as' ≡ (opposite (as_literal s) ∷ []) ∷ (as_literal t ∷ []) ∷ [])
-Fits scope rows (AtOne ImpNeg i) ps as' = (s : Lambda) × (t : Lambda) × (ps ≡ minus (imp s t) ∷ []) × (as' ≡ (as_literal s ∷ opposite (as_literal t) ∷ []) ∷ [])
 Fits scope rows (Cut l) ps as' = (ps ≡ []) × (as' ≡ (l ∷ []) ∷ (opposite l ∷ []) ∷ [])
-Fits scope rows (AtOne Refl i) ps as' = (a : SimpleType) × (s : Lambda) × (ps ≡ minus (eq a s s) ∷ []) × (as' ≡ [])
-Fits scope rows (AtOne BoolPos i) ps as' =
-    (s : Lambda) × (t : Lambda) × (ps ≡ plus (eq formula s t) ∷ []) × (as' ≡ (as_literal s ∷ as_literal t ∷ []) ∷ (opposite (as_literal s) ∷ opposite (as_literal t) ∷ []) ∷ [])
-Fits scope rows (AtOne BoolNeg i) ps as' =
-    (s : Lambda) × (t : Lambda) × (ps ≡ minus (eq formula s t) ∷ []) × (as' ≡ (as_literal s ∷ opposite (as_literal t) ∷ []) ∷ (opposite (as_literal s) ∷ as_literal t ∷ []) ∷ [])
 Fits scope rows (AtTwo Con i j) ps as' =
     (n : ℕ) × (s : Lambda) × (t : Lambda) × (u : Lambda) × (v : Lambda) × (ps ≡ plus (eq (base (suc n)) s t) ∷ minus (eq (base (suc n)) u v) ∷ []) × (as' ≡ confronted n s t u v)
-Fits scope rows (AtOne FunPos i) ps as' =
-    (a : SimpleType) × (b : SimpleType) × (s : Lambda) × (t : Lambda) × (ps ≡ plus (eq (arrow a b) s t) ∷ []) × (as' ≡ (as_literal (agreement a b s t) ∷ []) ∷ [])
-Fits scope rows (AtOne FunNeg i) ps as' =
-    (a : SimpleType) × (b : SimpleType) × (s : Lambda) × (t : Lambda) × (ps ≡ minus (eq (arrow a b) s t) ∷ []) × (as' ≡ (opposite (as_literal (agreement a b s t)) ∷ []) ∷ [])
 Fits scope rows (AllPos i u) ps as' =
     (a : SimpleType) × (f : Lambda) × IsCanonical scope [] a u × (ps ≡ plus (every a f) ∷ []) × (as' ≡ (as_literal (apply f u) ∷ []) ∷ [])
 Fits scope rows (AtOne AllNeg i) ps as' =
@@ -55,17 +45,16 @@ Fits scope rows (WithPredicate Cho f) ps as' =
     (a : SimpleType) × IsCanonical scope [] (predicate a) f × (ps ≡ []) × (as' ≡ (as_literal (nowhere a f) ∷ []) ∷ (as_literal (apply f (chosen a f)) ∷ []) ∷ [])
 Fits scope rows (WithPredicate Des f) ps as' =
     (a : SimpleType) × IsCanonical scope [] (predicate a) f × (ps ≡ []) × (as' ≡ (as_literal (nowhere a f) ∷ []) ∷ (opposite (as_literal (at_most_once a f)) ∷ []) ∷ (as_literal (apply f (described a f)) ∷ []) ∷ [])
+Fits scope rows (AtOne kind i) ps as' = (l : Literal) × (ps ≡ l ∷ []) × AloneBy kind l as'
+
+alone_fits : (scope : Scope) (rows : List Row) (i : ℕ) (kind : OnePlace) (l : Literal) (as' : List (List Literal)) → AloneBy kind l as' → Fits scope rows (AtOne kind i) (l ∷ []) as'
+alone_fits scope rows i AllNeg l as' h = absurd h
+alone_fits scope rows i Dec l as' h = absurd h
+alone_fits scope rows i kind l as' h = (l, refl, h)
 
 pub fits : (scope : Scope) (rows : List Row) (rule : PlainRule) (ps : List Literal) (as' : List (List Literal)) → Rule scope rows rule ps as' → Fits scope rows rule ps as'
-fits scope rows _ _ _ (false_rule i) = (refl, refl)
+fits scope rows _ _ _ (alone_rule i kind l as' h) = alone_fits scope rows i kind l as' (alone_by kind l as' h)
 fits scope rows _ _ _ (close_rule i j l) = (l, refl, refl)
-fits scope rows _ _ _ (imp_pos_rule i s t) = (s, t, refl, refl)
-fits scope rows _ _ _ (imp_neg_rule i s t) = (s, t, refl, refl)
-fits scope rows _ _ _ (refl_rule i a s) = (a, s, refl, refl)
-fits scope rows _ _ _ (bool_pos_rule i s t) = (s, t, refl, refl)
-fits scope rows _ _ _ (bool_neg_rule i s t) = (s, t, refl, refl)
-fits scope rows _ _ _ (fun_pos_rule i a b s t) = (a, b, s, t, refl, refl)
-fits scope rows _ _ _ (fun_neg_rule i a b s t) = (a, b, s, t, refl, refl)
 fits scope rows _ _ _ (all_pos_rule i a f u c) = (a, f, c, refl, refl)
 fits scope rows _ _ _ (all_neg_rule i k a f g) = (k, a, f, g, refl, refl)
 fits scope rows _ _ _ (cho_rule a f c) = (a, c, refl, refl)
@@ -87,38 +76,8 @@ same_differences scope c d a b ss us ts vs e f p q =
     ap (λ x. differ_each x ss ts) type ∙ ap₂ (differ_each b) left.arguments right.arguments
 
 same_alternatives : (scope : Scope) (rows : List Row) → AreDistinct rows → (rule : PlainRule) (ps : List Literal) (as' bs : List (List Literal)) → Fits scope rows rule ps as' → Fits scope rows rule ps bs → as' ≡ bs
-same_alternatives scope rows distinct (AtOne False i) ps as' bs h k = h.1 ∙ sym k.1
 same_alternatives scope rows distinct (AtTwo Close i j) ps as' bs h k = h.2 ∙ sym k.2
-same_alternatives scope rows distinct (AtOne ImpPos i) ps as' bs h k =
-    let e : plus (imp h.0 h.1) ∷ [] ≡ plus (imp k.0 k.1) ∷ [] = sym h.2 ∙ k.2 in
-    let l : plus (imp h.0 h.1) ≡ plus (imp k.0 k.1) = cc in
-    let a : imp h.0 h.1 ≡ imp k.0 k.1 = ap (λ x. x.atom) l in
-    let p : h.0 ≡ k.0 = cc in
-    let q : h.1 ≡ k.1 = cc in
-    h.3 ∙ ap₂ (λ s t. (opposite (as_literal s) ∷ []) ∷ (as_literal t ∷ []) ∷ []) p q ∙ sym k.3
-same_alternatives scope rows distinct (AtOne ImpNeg i) ps as' bs h k =
-    let e : minus (imp h.0 h.1) ∷ [] ≡ minus (imp k.0 k.1) ∷ [] = sym h.2 ∙ k.2 in
-    let l : minus (imp h.0 h.1) ≡ minus (imp k.0 k.1) = cc in
-    let a : imp h.0 h.1 ≡ imp k.0 k.1 = ap (λ x. x.atom) l in
-    let p : h.0 ≡ k.0 = cc in
-    let q : h.1 ≡ k.1 = cc in
-    h.3 ∙ ap₂ (λ s t. (as_literal s ∷ opposite (as_literal t) ∷ []) ∷ []) p q ∙ sym k.3
 same_alternatives scope rows distinct (Cut l) ps as' bs h k = h.1 ∙ sym k.1
-same_alternatives scope rows distinct (AtOne Refl i) ps as' bs h k = h.3 ∙ sym k.3
-same_alternatives scope rows distinct (AtOne BoolPos i) ps as' bs h k =
-    let e : plus (eq formula h.0 h.1) ∷ [] ≡ plus (eq formula k.0 k.1) ∷ [] = sym h.2 ∙ k.2 in
-    let l : plus (eq formula h.0 h.1) ≡ plus (eq formula k.0 k.1) = cc in
-    let a : eq formula h.0 h.1 ≡ eq formula k.0 k.1 = ap (λ x. x.atom) l in
-    let p : h.0 ≡ k.0 = cc in
-    let q : h.1 ≡ k.1 = cc in
-    h.3 ∙ ap₂ (λ s t. (as_literal s ∷ as_literal t ∷ []) ∷ (opposite (as_literal s) ∷ opposite (as_literal t) ∷ []) ∷ []) p q ∙ sym k.3
-same_alternatives scope rows distinct (AtOne BoolNeg i) ps as' bs h k =
-    let e : minus (eq formula h.0 h.1) ∷ [] ≡ minus (eq formula k.0 k.1) ∷ [] = sym h.2 ∙ k.2 in
-    let l : minus (eq formula h.0 h.1) ≡ minus (eq formula k.0 k.1) = cc in
-    let a : eq formula h.0 h.1 ≡ eq formula k.0 k.1 = ap (λ x. x.atom) l in
-    let p : h.0 ≡ k.0 = cc in
-    let q : h.1 ≡ k.1 = cc in
-    h.3 ∙ ap₂ (λ s t. (as_literal s ∷ opposite (as_literal t) ∷ []) ∷ (opposite (as_literal s) ∷ as_literal t ∷ []) ∷ []) p q ∙ sym k.3
 same_alternatives scope rows distinct (AtTwo Con i j) ps as' bs h k =
     let e : plus (eq (base (suc h.0)) h.1 h.2) ∷ minus (eq (base (suc h.0)) h.3 h.4) ∷ [] ≡ plus (eq (base (suc k.0)) k.1 k.2) ∷ minus (eq (base (suc k.0)) k.3 k.4) ∷ [] = sym h.5 ∙ k.5 in
     let l : plus (eq (base (suc h.0)) h.1 h.2) ≡ plus (eq (base (suc k.0)) k.1 k.2) = cc in
@@ -131,24 +90,6 @@ same_alternatives scope rows distinct (AtTwo Con i j) ps as' bs h k =
     let u : h.3 ≡ k.3 = cc in
     let v : h.4 ≡ k.4 = cc in
     h.6 ∙ ap (λ x. confronted x h.1 h.2 h.3 h.4) n ∙ ap₂ (λ x y. confronted k.0 x y h.3 h.4) s t ∙ ap₂ (λ x y. confronted k.0 k.1 k.2 x y) u v ∙ sym k.6
-same_alternatives scope rows distinct (AtOne FunPos i) ps as' bs h k =
-    let e : plus (eq (arrow h.0 h.1) h.2 h.3) ∷ [] ≡ plus (eq (arrow k.0 k.1) k.2 k.3) ∷ [] = sym h.4 ∙ k.4 in
-    let l : plus (eq (arrow h.0 h.1) h.2 h.3) ≡ plus (eq (arrow k.0 k.1) k.2 k.3) = cc in
-    let x : eq (arrow h.0 h.1) h.2 h.3 ≡ eq (arrow k.0 k.1) k.2 k.3 = ap (λ y. y.atom) l in
-    let a : h.0 ≡ k.0 = cc in
-    let b : h.1 ≡ k.1 = cc in
-    let s : h.2 ≡ k.2 = cc in
-    let t : h.3 ≡ k.3 = cc in
-    h.5 ∙ ap₂ (λ x y. (as_literal (agreement x y h.2 h.3) ∷ []) ∷ []) a b ∙ ap₂ (λ x y. (as_literal (agreement k.0 k.1 x y) ∷ []) ∷ []) s t ∙ sym k.5
-same_alternatives scope rows distinct (AtOne FunNeg i) ps as' bs h k =
-    let e : minus (eq (arrow h.0 h.1) h.2 h.3) ∷ [] ≡ minus (eq (arrow k.0 k.1) k.2 k.3) ∷ [] = sym h.4 ∙ k.4 in
-    let l : minus (eq (arrow h.0 h.1) h.2 h.3) ≡ minus (eq (arrow k.0 k.1) k.2 k.3) = cc in
-    let x : eq (arrow h.0 h.1) h.2 h.3 ≡ eq (arrow k.0 k.1) k.2 k.3 = ap (λ y. y.atom) l in
-    let a : h.0 ≡ k.0 = cc in
-    let b : h.1 ≡ k.1 = cc in
-    let s : h.2 ≡ k.2 = cc in
-    let t : h.3 ≡ k.3 = cc in
-    h.5 ∙ ap₂ (λ x y. (opposite (as_literal (agreement x y h.2 h.3)) ∷ []) ∷ []) a b ∙ ap₂ (λ x y. (opposite (as_literal (agreement k.0 k.1 x y)) ∷ []) ∷ []) s t ∙ sym k.5
 same_alternatives scope rows distinct (AllPos i u) ps as' bs h k =
     let e : plus (every h.0 h.1) ∷ [] ≡ plus (every k.0 k.1) ∷ [] = sym h.3 ∙ k.3 in
     let l : plus (every h.0 h.1) ≡ plus (every k.0 k.1) = cc in
@@ -183,6 +124,10 @@ same_alternatives scope rows distinct (WithPredicate Des f) ps as' bs h k =
     let e : Some (predicate h.0) ≡ Some (predicate k.0) = sym (canonical_type-at scope [] (predicate h.0) f h.1) ∙ canonical_type-at scope [] (predicate k.0) f k.1 in
     let a : h.0 ≡ k.0 = cc in
     h.3 ∙ ap (λ x. (as_literal (nowhere x f) ∷ []) ∷ (opposite (as_literal (at_most_once x f)) ∷ []) ∷ (as_literal (apply f (described x f)) ∷ []) ∷ []) a ∙ sym k.3
+same_alternatives scope rows distinct (AtOne kind i) ps as' bs h k =
+    let e : h.0 ∷ [] ≡ k.0 ∷ [] = sym h.1 ∙ k.1 in
+    let l : h.0 ≡ k.0 = cc in
+    one_alone kind k.0 as' bs (subst (λ x. AloneBy kind x as') l h.2) k.2
 
 same_at : (branch : List Literal) (is : List ℕ) (ls ks : List Literal) → AreAt branch is ls → AreAt branch is ks → ls ≡ ks
 same_at branch [] [] [] h k = refl
@@ -203,9 +148,13 @@ one_instance scope rows distinct branch rule as' bs h k =
     (fits scope rows rule k.principals bs k.fits)
 
 module _ (scope : Scope) (rows : List Row) (branch : List Literal) where
+  -- an instance of a rule that looks at its principal alone
+  pub alone_is : (i : ℕ) (kind : OnePlace) (l : Literal) (as' bs : List (List Literal)) → Alone kind l bs → slice_get branch i ≡ Some l → as' ≡ bs → IsInstance scope rows branch (AtOne kind i) as'
+  alone_is i kind l as' bs fits h e =
+      subst (IsInstance scope rows branch (AtOne kind i)) (sym e) (record { principals = l ∷ []; at_places = (h, tt); fits = alone_rule i kind l bs fits })
+
   pub false_is : (i : ℕ) (as' : List (List Literal)) → slice_get branch i ≡ Some (plus (constant falsity)) → as' ≡ [] → IsInstance scope rows branch (AtOne False i) as'
-  false_is i as' h e =
-      subst (IsInstance scope rows branch (AtOne False i)) (sym e) (record { principals = plus (constant falsity) ∷ []; at_places = (h, tt); fits = false_rule i })
+  false_is i as' h e = alone_is i False (plus (constant falsity)) as' [] false_alone h e
 
   pub close_is : (i j : ℕ) (l k : Literal) (as' : List (List Literal)) → slice_get branch i ≡ Some l → slice_get branch j ≡ Some k → k ≡ opposite l → as' ≡ [] → IsInstance scope rows branch (AtTwo Close i j) as'
   close_is i j l k as' h g o e =
@@ -213,31 +162,33 @@ module _ (scope : Scope) (rows : List Row) (branch : List Literal) where
 
   pub imp_pos_is : (i : ℕ) (s t : Lambda) (a b : Literal) (as' : List (List Literal)) → slice_get branch i ≡ Some (plus (imp s t)) → a ≡ opposite (as_literal s) → b ≡ as_literal t → as' ≡ (a ∷ []) ∷ (b ∷ []) ∷ [] → IsInstance scope rows branch (AtOne ImpPos i) as'
   imp_pos_is i s t a b as' h p q e =
-      subst (IsInstance scope rows branch (AtOne ImpPos i)) (sym (e ∙ ap₂ (λ x y. (x ∷ []) ∷ (y ∷ []) ∷ []) p q)) (record { principals = plus (imp s t) ∷ []; at_places = (h, tt); fits = imp_pos_rule i s t })
+      alone_is i ImpPos (plus (imp s t)) as' (imp_pos s t) (imp_pos_alone s t) h (e ∙ ap₂ (λ x y. (x ∷ []) ∷ (y ∷ []) ∷ []) p q)
 
   pub imp_neg_is : (i : ℕ) (s t : Lambda) (a b : Literal) (as' : List (List Literal)) → slice_get branch i ≡ Some (minus (imp s t)) → a ≡ as_literal s → b ≡ opposite (as_literal t) → as' ≡ (a ∷ b ∷ []) ∷ [] → IsInstance scope rows branch (AtOne ImpNeg i) as'
   imp_neg_is i s t a b as' h p q e =
-      subst (IsInstance scope rows branch (AtOne ImpNeg i)) (sym (e ∙ ap₂ (λ x y. (x ∷ y ∷ []) ∷ []) p q)) (record { principals = minus (imp s t) ∷ []; at_places = (h, tt); fits = imp_neg_rule i s t })
+      alone_is i ImpNeg (minus (imp s t)) as' (imp_neg s t) (imp_neg_alone s t) h (e ∙ ap₂ (λ x y. (x ∷ y ∷ []) ∷ []) p q)
 
   pub refl_is : (i : ℕ) (a : SimpleType) (s t : Lambda) (as' : List (List Literal)) → slice_get branch i ≡ Some (minus (eq a s t)) → s ≡ t → as' ≡ [] → IsInstance scope rows branch (AtOne Refl i) as'
   refl_is i a s t as' h same e =
-      subst (IsInstance scope rows branch (AtOne Refl i)) (sym e) (record { principals = minus (eq a s s) ∷ []; at_places = (h ∙ ap (λ x. Some (minus (eq a s x))) (sym same), tt); fits = refl_rule i a s })
+      alone_is i Refl (minus (eq a s s)) as' [] (refl_alone a s) (h ∙ ap (λ x. Some (minus (eq a s x))) (sym same)) e
 
   pub bool_pos_is : (i : ℕ) (a : SimpleType) (s t : Lambda) (as' : List (List Literal)) → slice_get branch i ≡ Some (plus (eq a s t)) → a ≡ formula → as' ≡ (as_literal s ∷ as_literal t ∷ []) ∷ (opposite (as_literal s) ∷ opposite (as_literal t) ∷ []) ∷ [] → IsInstance scope rows branch (AtOne BoolPos i) as'
   bool_pos_is i a s t as' h is e =
-      subst (IsInstance scope rows branch (AtOne BoolPos i)) (sym e) (record { principals = plus (eq formula s t) ∷ []; at_places = (h ∙ ap (λ x. Some (plus (eq x s t))) is, tt); fits = bool_pos_rule i s t })
+      alone_is i BoolPos (plus (eq formula s t)) as' (bool_pos s t) (bool_pos_alone s t) (h ∙ ap (λ x. Some (plus (eq x s t))) is) e
 
   pub bool_neg_is : (i : ℕ) (a : SimpleType) (s t : Lambda) (as' : List (List Literal)) → slice_get branch i ≡ Some (minus (eq a s t)) → a ≡ formula → as' ≡ (as_literal s ∷ opposite (as_literal t) ∷ []) ∷ (opposite (as_literal s) ∷ as_literal t ∷ []) ∷ [] → IsInstance scope rows branch (AtOne BoolNeg i) as'
   bool_neg_is i a s t as' h is e =
-      subst (IsInstance scope rows branch (AtOne BoolNeg i)) (sym e) (record { principals = minus (eq formula s t) ∷ []; at_places = (h ∙ ap (λ x. Some (minus (eq x s t))) is, tt); fits = bool_neg_rule i s t })
+      alone_is i BoolNeg (minus (eq formula s t)) as' (bool_neg s t) (bool_neg_alone s t) (h ∙ ap (λ x. Some (minus (eq x s t))) is) e
 
   pub fun_pos_is : (i : ℕ) (c a b : SimpleType) (s t whole : Lambda) (l : Literal) (as' : List (List Literal)) → slice_get branch i ≡ Some (plus (eq c s t)) → c ≡ arrow a b → whole ≡ agreement a b s t → l ≡ as_literal whole → as' ≡ (l ∷ []) ∷ [] → IsInstance scope rows branch (AtOne FunPos i) as'
   fun_pos_is i c a b s t whole l as' h is p q e =
-      subst (IsInstance scope rows branch (AtOne FunPos i)) (sym (e ∙ ap (λ x. (x ∷ []) ∷ []) (q ∙ ap as_literal p))) (record { principals = plus (eq (arrow a b) s t) ∷ []; at_places = (h ∙ ap (λ x. Some (plus (eq x s t))) is, tt); fits = fun_pos_rule i a b s t })
+      alone_is i FunPos (plus (eq (arrow a b) s t)) as' (fun_pos a b s t) (fun_pos_alone a b s t) (h ∙ ap (λ x. Some (plus (eq x s t))) is)
+      (e ∙ ap (λ x. (x ∷ []) ∷ []) (q ∙ ap as_literal p))
 
   pub fun_neg_is : (i : ℕ) (c a b : SimpleType) (s t whole : Lambda) (l k : Literal) (as' : List (List Literal)) → slice_get branch i ≡ Some (minus (eq c s t)) → c ≡ arrow a b → whole ≡ agreement a b s t → l ≡ as_literal whole → k ≡ opposite l → as' ≡ (k ∷ []) ∷ [] → IsInstance scope rows branch (AtOne FunNeg i) as'
   fun_neg_is i c a b s t whole l k as' h is p q o e =
-      subst (IsInstance scope rows branch (AtOne FunNeg i)) (sym (e ∙ ap (λ x. (x ∷ []) ∷ []) (o ∙ ap opposite (q ∙ ap as_literal p)))) (record { principals = minus (eq (arrow a b) s t) ∷ []; at_places = (h ∙ ap (λ x. Some (minus (eq x s t))) is, tt); fits = fun_neg_rule i a b s t })
+      alone_is i FunNeg (minus (eq (arrow a b) s t)) as' (fun_neg a b s t) (fun_neg_alone a b s t) (h ∙ ap (λ x. Some (minus (eq x s t))) is)
+      (e ∙ ap (λ x. (x ∷ []) ∷ []) (o ∙ ap opposite (q ∙ ap as_literal p)))
 
   pub all_pos_is : (i : ℕ) (a : SimpleType) (f u whole : Lambda) (l : Literal) (as' : List (List Literal)) → slice_get branch i ≡ Some (plus (every a f)) → IsCanonical scope [] a u → whole ≡ apply f u → l ≡ as_literal whole → as' ≡ (l ∷ []) ∷ [] → IsInstance scope rows branch (AllPos i u) as'
   all_pos_is i a f u whole l as' h c p q e =

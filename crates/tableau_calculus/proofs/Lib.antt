@@ -5,6 +5,7 @@ pub mod LiteralLaws
 pub mod EquationLaws
 pub mod FunctionLaws
 pub mod DecompositionLaws
+pub mod AloneLaws
 pub mod RuleLaws
 pub mod ClosedLaws
 pub mod AcceptedLaws

@@ -12,12 +12,13 @@ use Rattle.stt_core.proofs.ConstantValues.{value-imp, bit}
 use Rattle.tableau_calculus.specs.Literals.{Literal, IsBranch}
 use Rattle.tableau_calculus.specs.Meets.{MeetsBranch, MeetsOne}
 use Rattle.tableau_calculus.specs.Witnesses.{Row}
-use Rattle.tableau_calculus.specs.Rules.{Rule, false_rule, close_rule, refl_rule, imp_pos_rule, imp_neg_rule, bool_pos_rule, bool_neg_rule, fun_pos_rule, fun_neg_rule, all_pos_rule, all_neg_rule, mat_rule, dec_rule, con_rule, cho_rule, des_rule, cut_rule, agreement, nowhere, chosen, at_most_once, described, PlainRule}
+use Rattle.tableau_calculus.specs.Rules.{Rule, alone_rule, close_rule, all_pos_rule, all_neg_rule, mat_rule, dec_rule, con_rule, cho_rule, des_rule, cut_rule, nowhere, chosen, at_most_once, described, PlainRule}
 use Rattle.tableau_calculus.proofs.LiteralLaws.{imp_canonical, value-bit, as_literal-says, literal_or_opposite, not_both}
 use Rattle.normal_forms.specs.Normal.{eta, apply}
 use Rattle.normal_forms.proofs.NormalValues.{canonical-eta, value-eta}
 use Rattle.tableau_calculus.specs.Along.{GoesAlong}
 use Rattle.tableau_calculus.proofs.FunctionLaws.{every_canonical, canonical-agreement, canonical-nowhere, canonical-chosen, canonical-at_most_once, canonical-described, canonical-applied, value-applied, value-every-canonical, value-agreement, value-chosen, value-described}
+use Rattle.tableau_calculus.proofs.AloneLaws.{alone_keeps}
 use Rattle.tableau_calculus.proofs.DecompositionLaws.{arguments_taken, differ_one}
 use Rattle.tableau_calculus.proofs.EquationLaws.{eq_canonical, same_or_not, met-eq, met-differ, meets-differ}
 
@@ -33,64 +34,11 @@ witness_typed scope rows e k r h = ap (λ ws. slice_get ws k) e ∙ typed_at row
 pub canonical-witness : (scope : Scope) (rows : List Row) → scope.witnesses ≡ map (λ r. r.type) rows → (k : ℕ) (a : SimpleType) (f : Lambda) → slice_get rows k ≡ Some (record { type = a; predicate = f }) → is_declared scope.bases a ≡ true → IsCanonical scope [] a (eta a (constant (witness k)))
 canonical-witness scope rows e k a f h d = canonical-eta scope [] a (constant (witness k)) d (witness_typed scope rows e k (record { type = a; predicate = f }) h)
 
-imp_one : (x y : ℕ) → x < 2 → (if nat_eq x 1 then y else 1) ≡ 1 → (x ≡ 0) ⊎ (y ≡ 1)
-imp_one zero y h e = inl refl
-imp_one (suc zero) y h e = inr e
-imp_one (suc (suc x)) y h e = absurd (omega arith)
-
-imp_zero : (x y : ℕ) → x < 2 → (if nat_eq x 1 then y else 1) ≡ 0 → (x ≡ 1) × (y ≡ 0)
-imp_zero zero y h e = absurd (omega arith)
-imp_zero (suc zero) y h e = (refl, e)
-imp_zero (suc (suc x)) y h e = absurd (omega arith)
-
 module _ (scope : Scope) (m : Model) (good : IsModel scope m) where
-  value-imp-canonical : (s t : Lambda) → IsCanonical scope [] formula (imp s t) → value scope m [] [] (imp s t) ≡ (if nat_eq (value scope m [] [] s) 1 then value scope m [] [] t else 1)
-  value-imp-canonical s t h =
-      let sides = imp_canonical scope s t h in
-      value-imp scope m good [] [] tt s t (type_of-canonical scope [] formula s sides.0) (type_of-canonical scope [] formula t sides.1)
-
   -- a model that meets the principals of a rule meets one whole alternative
   pub rule_keeps : (rows : List Row) → scope.witnesses ≡ map (λ r. r.type) rows → GoesAlong scope m rows → (rule : PlainRule) (principals : List Literal) (alternatives : List (List Literal)) → Rule scope rows rule principals alternatives → IsBranch scope principals → MeetsBranch scope m principals → MeetsOne scope m alternatives
-  rule_keeps rows types along _ _ _ (false_rule i) typed met = absurd (omega (arith, met.0))
+  rule_keeps rows types along _ _ _ (alone_rule i kind l alternatives h) typed met = alone_keeps scope m good kind l alternatives h typed.0 met.0
   rule_keeps rows types along _ _ _ (close_rule i j l) typed met = not_both scope m l met.0 met.1.0
-  rule_keeps rows types along _ _ _ (imp_pos_rule i s t) typed met =
-      let sides = imp_canonical scope s t typed.0.formula in
-      let v = imp_one (value scope m [] [] s) (value scope m [] [] t) (value-bit scope m good s sides.0) (sym (value-imp-canonical s t typed.0.formula) ∙ met.0) in
-      ⊎_elim (λ e. inl ((as_literal-says scope m good s sides.0).at_zero e, tt)) (λ e. inr (inl ((as_literal-says scope m good t sides.1).at_one e, tt))) v
-  rule_keeps rows types along _ _ _ (imp_neg_rule i s t) typed met =
-      let sides = imp_canonical scope s t typed.0.formula in
-      let v = imp_zero (value scope m [] [] s) (value scope m [] [] t) (value-bit scope m good s sides.0) (sym (value-imp-canonical s t typed.0.formula) ∙ met.0) in
-      inl ((as_literal-says scope m good s sides.0).at_one v.0, ((as_literal-says scope m good t sides.1).at_zero v.1, tt))
-  rule_keeps rows types along _ _ _ (refl_rule i a s) typed met = met-differ scope m good a s s (eq_canonical scope a s s typed.0.formula) met.0 refl
-  rule_keeps rows types along _ _ _ (bool_pos_rule i s t) typed met =
-      let sides = eq_canonical scope formula s t typed.0.formula in
-      let v = met-eq scope m good formula s t sides met.0 in
-      let p = as_literal-says scope m good s sides.left in
-      let q = as_literal-says scope m good t sides.right in
-      ⊎_elim
-      (λ z. inr (inl (p.at_zero z, (q.at_zero (sym v ∙ z), tt))))
-      (λ o. inl (p.at_one o, (q.at_one (sym v ∙ o), tt)))
-      (bit (value scope m [] [] s) (value-bit scope m good s sides.left))
-  rule_keeps rows types along _ _ _ (bool_neg_rule i s t) typed met =
-      let sides = eq_canonical scope formula s t typed.0.formula in
-      let apart = met-differ scope m good formula s t sides met.0 in
-      let p = as_literal-says scope m good s sides.left in
-      let q = as_literal-says scope m good t sides.right in
-      let bt = bit (value scope m [] [] t) (value-bit scope m good t sides.right) in
-      ⊎_elim
-      (λ z. ⊎_elim (λ y. absurd (apart (z ∙ sym y))) (λ o. inr (inl (p.at_zero z, (q.at_one o, tt)))) bt)
-      (λ o. ⊎_elim (λ z. inl (p.at_one o, (q.at_zero z, tt))) (λ y. absurd (apart (o ∙ sym y))) bt)
-      (bit (value scope m [] [] s) (value-bit scope m good s sides.left))
-  rule_keeps rows types along _ _ _ (fun_pos_rule i a b s t) typed met =
-      let sides = eq_canonical scope (arrow a b) s t typed.0.formula in
-      let v = met-eq scope m good (arrow a b) s t sides met.0 in
-      inl ((as_literal-says scope m good (agreement a b s t) (canonical-agreement scope a b s t sides)).at_one ((value-agreement scope m good a b s t sides).1 v), tt)
-  rule_keeps rows types along _ _ _ (fun_neg_rule i a b s t) typed met =
-      let sides = eq_canonical scope (arrow a b) s t typed.0.formula in
-      let apart = met-differ scope m good (arrow a b) s t sides met.0 in
-      let c = canonical-agreement scope a b s t sides in
-      let zero_there : value scope m [] [] (agreement a b s t) ≡ 0 = ⊎_elim (λ z. z) (λ o. absurd (apart ((value-agreement scope m good a b s t sides).0 o))) (bit (value scope m [] [] (agreement a b s t)) (value-bit scope m good (agreement a b s t) c)) in
-      inl ((as_literal-says scope m good (agreement a b s t) c).at_zero zero_there, tt)
   rule_keeps rows types along _ _ _ (all_pos_rule i a f u c) typed met =
       let e = every_canonical scope a f typed.0.formula in
       let o = (value-every-canonical scope m good a f e.0 e.1).0 met.0 (value scope m [] [] u) (value-lt scope m good [] [] a u (type_of-canonical scope [] a u c) tt) in

@@ -13,6 +13,7 @@ pub use Rattle.stt_core.specs.SimpleType
 pub use Rattle.stt_core.specs.TypedProblem
 pub use Rattle.stt_core.specs.Typing
 pub use Rattle.stt_core.specs.View
+pub mod Each
 pub mod Literals
 pub mod Kinds
 pub mod Witnesses

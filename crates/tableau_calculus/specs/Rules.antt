@@ -16,6 +16,7 @@ use Rattle.tableau_calculus.specs.Witnesses.{Row}
 use Rattle.tableau_calculus.specs.RuleUses.{principals_of}
 use Rattle.tableau_calculus.specs.declared.rule_use.RuleUse.{RuleUse}
 use Rattle.tableau_calculus.specs.declared.rule_use.RuleUse.TheVariants.{AtOne, AtTwo, AllPos, WithPredicate, Cut}
+use Rattle.tableau_calculus.specs.declared.rule_use.OnePlace.{OnePlace}
 use Rattle.tableau_calculus.specs.declared.rule_use.OnePlace.TheVariants.{False, Refl, ImpPos, ImpNeg, BoolPos, BoolNeg, FunPos, FunNeg, AllNeg, Dec}
 use Rattle.tableau_calculus.specs.declared.rule_use.TwoPlaces.TheVariants.{Close, Mat, Con}
 use Rattle.tableau_calculus.specs.declared.rule_use.OfPredicate.TheVariants.{Cho, Des}
@@ -121,22 +122,26 @@ des a f =
 abbrev pub PlainRule : Type 0
 PlainRule = RuleUse ℕ Lambda Literal
 
+-- The rules that look at one principal and at nothing else, neither at the scope nor at the witnesses: a rule, its principal, its
+-- alternatives.
+pub data Alone : OnePlace → Literal → Alternatives → Type 0 where
+  false_alone : Alone False (plus (constant falsity)) []
+  refl_alone : (a : SimpleType) (s : Lambda) → Alone Refl (minus (eq a s s)) []
+  imp_pos_alone : (s t : Lambda) → Alone ImpPos (plus (imp s t)) (imp_pos s t)
+  imp_neg_alone : (s t : Lambda) → Alone ImpNeg (minus (imp s t)) (imp_neg s t)
+  bool_pos_alone : (s t : Lambda) → Alone BoolPos (plus (eq formula s t)) (bool_pos s t)
+  bool_neg_alone : (s t : Lambda) → Alone BoolNeg (minus (eq formula s t)) (bool_neg s t)
+  fun_pos_alone : (a b : SimpleType) (s t : Lambda) → Alone FunPos (plus (eq (arrow a b) s t)) (fun_pos a b s t)
+  fun_neg_alone : (a b : SimpleType) (s t : Lambda) → Alone FunNeg (minus (eq (arrow a b) s t)) (fun_neg a b s t)
+
 -- The table: a rule with what it takes, its principals, and its alternatives. A branch that holds the principals is met only by models
 -- that meet a whole alternative too. A base type whose number is a successor is one other than that of formulas.
 pub data Rule (scope : Scope) (rows : List Row) : PlainRule → List Literal → List (List Literal) → Type 0 where
-  false_rule : (i : ℕ) → Rule scope rows (AtOne False i) (plus (constant falsity) ∷ []) []
+  alone_rule :
+      (i : ℕ) (kind : OnePlace) (l : Literal) (alternatives : Alternatives)
+      → Alone kind l alternatives
+      → Rule scope rows (AtOne kind i) (l ∷ []) alternatives
   close_rule : (i j : ℕ) (l : Literal) → Rule scope rows (AtTwo Close i j) (l ∷ opposite l ∷ []) []
-  refl_rule : (i : ℕ) (a : SimpleType) (s : Lambda) → Rule scope rows (AtOne Refl i) (minus (eq a s s) ∷ []) []
-  imp_pos_rule : (i : ℕ) (s t : Lambda) → Rule scope rows (AtOne ImpPos i) (plus (imp s t) ∷ []) (imp_pos s t)
-  imp_neg_rule : (i : ℕ) (s t : Lambda) → Rule scope rows (AtOne ImpNeg i) (minus (imp s t) ∷ []) (imp_neg s t)
-  bool_pos_rule : (i : ℕ) (s t : Lambda) → Rule scope rows (AtOne BoolPos i) (plus (eq formula s t) ∷ []) (bool_pos s t)
-  bool_neg_rule : (i : ℕ) (s t : Lambda) → Rule scope rows (AtOne BoolNeg i) (minus (eq formula s t) ∷ []) (bool_neg s t)
-  fun_pos_rule :
-      (i : ℕ) (a b : SimpleType) (s t : Lambda)
-      → Rule scope rows (AtOne FunPos i) (plus (eq (arrow a b) s t) ∷ []) (fun_pos a b s t)
-  fun_neg_rule :
-      (i : ℕ) (a b : SimpleType) (s t : Lambda)
-      → Rule scope rows (AtOne FunNeg i) (minus (eq (arrow a b) s t) ∷ []) (fun_neg a b s t)
   all_pos_rule :
       (i : ℕ) (a : SimpleType) (f u : Lambda)
       → IsCanonical scope [] a u

@@ -10,7 +10,7 @@ use Rattle.sat_base.proofs.LiteralLaws.{same_literal-comm}
 use Rattle.search_spec.specs.Clauses.{choices, is_tautology, clause_of, instance_clauses}
 use Rattle.tableau_calculus.specs.Kinds.{added}
 use Rattle.search_spec.specs.Numbered.{numbers}
-use Rattle.search_spec.specs.Each.{Each}
+use Rattle.tableau_calculus.specs.Each.{Each}
 
 -- no literal of the list is there twice
 abbrev HasNoRepeat : List SatLit → Type 0

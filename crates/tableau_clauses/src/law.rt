@@ -3,7 +3,7 @@ ghost use Rattle.std.specs.Prelude.{List};
 ghost use Rattle.sat_base.specs.declared.literal.SatLit.{SatLit};
 ghost use Rattle.sat_base.specs.Literal.{HoldsNoVariableTwice};
 ghost use Rattle.search_spec.specs.Clauses.{instance_clauses};
-ghost use Rattle.search_spec.specs.Each.{Each};
+ghost use Rattle.tableau_calculus.specs.Each.{Each};
 ghost use Rattle.search_spec.specs.Numbered.{numbers};
 
 /// No clause of an instance holds a variable twice, so a solver takes it.

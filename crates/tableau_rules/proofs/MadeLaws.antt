@@ -20,7 +20,7 @@ use Rattle.term_bank.specs.Terms.{term_at}
 use Rattle.term_bank.proofs.ListLaws.{get_or-front}
 use Rattle.literal_map.specs.Atoms.{bank_literal, IsAtom, Begins}
 use Rattle.literal_map.specs.Numbers.{UseByNumbers}
-use Rattle.search_spec.specs.Each.{Each}
+use Rattle.tableau_calculus.specs.Each.{Each}
 use Rattle.search_spec.proofs.TypedAlternatives.{alternatives_typed}
 use Rattle.tableau_rules.specs.Uses.{use_of, IsInstanceBy}
 use Rattle.tableau_rules.specs.Changes.{Widens}

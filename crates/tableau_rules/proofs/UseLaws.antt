@@ -20,7 +20,7 @@ use Rattle.term_bank.proofs.ListLaws.{get_or-front}
 use Rattle.literal_map.specs.Atoms.{bank_literal, IsAtom, Begins}
 use Rattle.literal_map.specs.Numbers.{UseByNumbers}
 use Rattle.literal_map.proofs.StayLaws.{literals_same}
-use Rattle.search_spec.specs.Each.{Each}
+use Rattle.tableau_calculus.specs.Each.{Each}
 use Rattle.tableau_rules.specs.Uses.{use_of}
 use Rattle.tableau_rules.specs.Changes.{Widens, makes_witness, denial_of, AreWitnessesAfter, AreWitnessesBy}
 use Rattle.tableau_rules.specs.Internal.Drafted.{principal_at, alternatives_at, IsPrincipal, Drafted}

@@ -10,7 +10,7 @@ use Rattle.stt_core.specs.Typing.{Scope, constant_type}
 use Rattle.stt_core.specs.Canonical.{IsCanonical, IsNeutral}
 use Rattle.tableau_calculus.specs.Literals.{Literal, is_negated}
 use Rattle.tableau_calculus.specs.Witnesses.{Row, with_rows}
-use Rattle.tableau_calculus.specs.Rules.{PlainRule, Rule, false_rule, close_rule, refl_rule, imp_pos_rule, imp_neg_rule, bool_pos_rule, bool_neg_rule, fun_pos_rule, fun_neg_rule, all_pos_rule, all_neg_rule, mat_rule, dec_rule, con_rule, cho_rule, des_rule, cut_rule, IsInstance}
+use Rattle.tableau_calculus.specs.Rules.{PlainRule, Rule, alone_rule, close_rule, all_pos_rule, all_neg_rule, mat_rule, dec_rule, con_rule, cho_rule, des_rule, cut_rule, IsInstance}
 use Rattle.term_bank.specs.Content.{Content, content_scope, HasTerm, Grows}
 use Rattle.term_bank.specs.Terms.{term_at}
 use Rattle.term_bank.proofs.ListLaws.{get_or-front}
@@ -74,15 +74,8 @@ module _ (s : Scope) (types : List SimpleType) where
   constant_more c a h = neutral_more [] a (constant c) h
 
   rule_more : (rows : List Row) (rule : PlainRule) (ps : List Literal) (as' : List (List Literal)) → Rule s rows rule ps as' → Rule wider rows rule ps as'
-  rule_more rows _ _ _ (false_rule i) = false_rule i
+  rule_more rows _ _ _ (alone_rule i kind l as' h) = alone_rule i kind l as' h
   rule_more rows _ _ _ (close_rule i j l) = close_rule i j l
-  rule_more rows _ _ _ (refl_rule i a u) = refl_rule i a u
-  rule_more rows _ _ _ (imp_pos_rule i u t) = imp_pos_rule i u t
-  rule_more rows _ _ _ (imp_neg_rule i u t) = imp_neg_rule i u t
-  rule_more rows _ _ _ (bool_pos_rule i u t) = bool_pos_rule i u t
-  rule_more rows _ _ _ (bool_neg_rule i u t) = bool_neg_rule i u t
-  rule_more rows _ _ _ (fun_pos_rule i a b u t) = fun_pos_rule i a b u t
-  rule_more rows _ _ _ (fun_neg_rule i a b u t) = fun_neg_rule i a b u t
   rule_more rows _ _ _ (all_pos_rule i a f u c) = all_pos_rule i a f u (canonical_more [] a u c)
   rule_more rows _ _ _ (all_neg_rule i k a f g) = all_neg_rule i k a f g
   rule_more rows _ _ _ (mat_rule i j c a u t us ts d e) = mat_rule i j c a u t us ts d (constant_more c a e)

@@ -2,7 +2,7 @@ pub use Rattle.bank_normal.specs.Right
 pub use Rattle.literal_map.specs.Atoms
 pub use Rattle.literal_map.specs.Numbers
 pub use Rattle.normal_forms.specs.Normal
-pub use Rattle.search_spec.specs.Each
+pub use Rattle.tableau_calculus.specs.Each
 pub use Rattle.stt_core.specs.Canonical
 pub use Rattle.stt_core.specs.Lambda
 pub use Rattle.stt_core.specs.SimpleType

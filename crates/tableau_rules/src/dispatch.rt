@@ -1,6 +1,6 @@
 //! The rules by what they take.
 ghost use Rattle.std.specs.Prelude.{◌≡◌, ◌<◌, ◌-◌, ◌^◌, ℕ, List, length, Some, None, All, IfOk, OnOk, OnErr, false, ◌⊎◌};
-ghost use Rattle.search_spec.specs.Each.{Each};
+ghost use Rattle.tableau_calculus.specs.Each.{Each};
 ghost use Rattle.tableau_calculus.specs.RuleUses.{principals_of, EachPart};
 ghost use Rattle.tableau_calculus.specs.Witnesses.{Row};
 ghost use Rattle.tableau_calculus.specs.declared.rule_use.OnePlace.TheVariants.{AllNeg};

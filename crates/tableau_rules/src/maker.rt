@@ -6,7 +6,7 @@ ghost use Rattle.tableau_calculus.specs.Witnesses.{Row};
 ghost use Rattle.bank_normal.specs.Right.{IsRightNormaliser};
 ghost use Rattle.literal_map.specs.Atoms.{bank_literal, IsAtom, Begins};
 ghost use Rattle.witness_names.specs.Rows.{rows_of, AreRows};
-ghost use Rattle.search_spec.specs.Each.{Each};
+ghost use Rattle.tableau_calculus.specs.Each.{Each};
 ghost use Rattle.tableau_rules.specs.Uses.{IsInstanceBy};
 ghost use Rattle.tableau_rules.specs.Changes.{Widens, AreWitnessesBy, LeavesWitnesses};
 ghost use Rattle.tableau_rules.specs.Internal.Drafted.{alternatives_at};

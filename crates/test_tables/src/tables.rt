@@ -1,6 +1,6 @@
 //! The tables in which instances are made.
 ghost use Rattle.std.specs.Prelude.{◌<◌, [], length, map, IfOk, IsTrue};
-ghost use Rattle.search_spec.specs.Each.{Each};
+ghost use Rattle.tableau_calculus.specs.Each.{Each};
 ghost use Rattle.stt_core.specs.Canonical.{IsCanonical};
 ghost use Rattle.stt_core.specs.SimpleType.{formula};
 ghost use Rattle.stt_core.specs.Typing.{AreDeclared};

@@ -3,14 +3,14 @@ use Rattle.std.proofs.Common.{◌≡◌, ◌≤◌, ◌&&◌, ℕ, zero, suc, Bo
 use Rattle.std.specs.List.{list_any, list_all, flat_map}
 use Rattle.std.proofs.lemmas.Bool.{and_parts, leb-true}
 use Rattle.stt_core.specs.SimpleType.{SimpleType, base, arrow, formula, target}
-use Rattle.stt_core.specs.Lambda.{name, witness, falsity, negation, implication, all, equality, choice, description, Lambda, bound, constant, lam, app, imp, eq, every}
+use Rattle.stt_core.specs.Lambda.{name, witness, falsity, negation, implication, all, equality, choice, description, Lambda, bound, constant, lam, app, eq, every}
 use Rattle.stt_core.specs.Depth.{depth}
 use Rattle.stt_core.specs.Typing.{type_of}
 use Rattle.stt_core.specs.SameTerm.{same_term}
 use Rattle.tableau_calculus.specs.Literals.{Literal, plus, minus}
 use Rattle.tableau_calculus.specs.Kinds.{has, formulas}
 use Rattle.tableau_calculus.specs.Witnesses.{Row}
-use Rattle.search_spec.specs.Each.{Each}
+use Rattle.tableau_calculus.specs.Each.{Each}
 use Rattle.search_spec.specs.Clauses.{instance_clauses, with_clauses}
 use Rattle.search_spec.specs.Heads.{heads_for}
 use Rattle.search_spec.specs.Partial.{first_hole, whole_term, blank_partial}
@@ -21,7 +21,8 @@ use Rattle.command_queue.specs.Queue.{comes_before}
 use Rattle.search_spec.specs.Closed.{is_closed}
 use Rattle.search_spec.specs.State.{State, Setting, Typed, Sketch, Command, process, mate, confront, inst, choose, describe, grow, due, with_commands, scope_in}
 use Rattle.search_spec.specs.Spine.{head_of, arguments, is_spine, same_head}
-use Rattle.tableau_calculus.specs.Rules.{Alternatives, imp_pos, imp_neg, bool_pos, bool_neg, fun_pos, fun_neg, all_pos, all_neg, differ, con, cho, des}
+use Rattle.tableau_calculus.specs.Rules.{Alternatives, bool_pos, bool_neg, fun_pos, fun_neg, all_pos, all_neg, differ, con, cho, des}
+use Rattle.tableau_calculus.specs.declared.rule_use.OnePlace.{OnePlace}
 use Rattle.search_spec.specs.Instances.{with_literal, with_literals, with_instance}
 use Rattle.search_spec.specs.Terms.{terms_of, ranges_over, universals, with_term, with_terms, first_terms, with_opening}
 use Rattle.search_spec.specs.Offers.{is_prepared, early_terms, offered_witness, offered_sides, offered_heads}
@@ -29,7 +30,7 @@ use Rattle.search_spec.specs.Preparing.{with_beginning, with_preparation}
 use Rattle.search_spec.specs.Partners.{partners, positive_first, matings, confrontations}
 use Rattle.search_spec.specs.Selections.{Selection, by_choice, by_description, selection_by, selections_in, with_selection, with_selections}
 use Rattle.search_spec.specs.Witness.{same_row, witness_of, has_hole_of, with_new_witness, with_witness, with_denied}
-use Rattle.search_spec.specs.Processing.{with_decomposition, with_confrontations, with_equation, with_universal, with_matings, with_rules, with_processing}
+use Rattle.search_spec.specs.Processing.{with_decomposition, with_confrontations, with_equation, with_universal, with_matings, connective_rule, with_connective, with_rules, with_processing}
 use Rattle.search_spec.specs.Commands.{with_confrontation, with_instantiation, with_growth, growth_by, with_command}
 use Rattle.search_spec.specs.After.{nothing_yet, starting_state, with_taken, after_command, next_state, state_after}
 use Rattle.search_spec.proofs.NamingLaws.{StandFor, each-joined, pick_good, instance_clauses_good, with_clauses_good}
@@ -253,16 +254,17 @@ module _ (setting : Setting) where
       let k = witnessed-flat a f s h g in
       pick_good Is (list_any (same_row r) s.rows) done (with_terms setting.mode a us done) k (with_terms-flat a us done k)
 
+  connected-flat : (l : Literal) (o : Option (OnePlace × Alternatives)) (s : State) → IsFlat l → Is s → Is (with_connective setting l o s)
+  connected-flat l (Some rule) s h g = with_instance-flat (l ∷ []) rule.1 s (h, tt) g
+  connected-flat l None s h g = mated-flat l s h g
+
   worked-flat : (sign : Bool) (t : Lambda) (s : State) → depth t ≤ 4096 → Is s → Is (with_rules setting sign t s)
-  worked-flat true (constant falsity) s h g = with_instance-flat (plus (constant falsity) ∷ []) [] s (h, tt) g
-  worked-flat true (app (app (constant implication) u) v) s h g = with_instance-flat (plus (imp u v) ∷ []) (imp_pos u v) s (h, tt) g
-  worked-flat false (app (app (constant implication) u) v) s h g = with_instance-flat (minus (imp u v) ∷ []) (imp_neg u v) s (h, tt) g
   worked-flat true (app (app (constant (equality a)) u) v) s h g = equated-flat a true u v s h g
   worked-flat false (app (app (constant (equality a)) u) v) s h g =
       pick_good Is (same_term u v) (with_instance setting.mode (minus (eq a u v) ∷ []) [] s) (with_equation setting a false u v s) (with_instance-flat (minus (eq a u v) ∷ []) [] s (h, tt) g) (equated-flat a false u v s h g)
   worked-flat true (app (constant (all a)) f) s h g = quantified-flat a f s h g
   worked-flat false (app (constant (all a)) f) s h g = denied-flat a f s h g
-  worked-flat sign t s h g = mated-flat (record { positive = sign; atom = t }) s h g
+  worked-flat sign t s h g = connected-flat (record { positive = sign; atom = t }) (connective_rule t sign) s h g
 
   processed-flat : (l : Literal) (s : State) → IsFlat l → Is s → Is (with_processing setting l s)
   processed-flat l s h g =

@@ -13,7 +13,7 @@ use Rattle.normal_forms.specs.Normal.{eta}
 use Rattle.tableau_calculus.specs.Literals.{Literal}
 use Rattle.tableau_calculus.specs.Kinds.{has, formulas}
 use Rattle.tableau_calculus.specs.Witnesses.{Row}
-use Rattle.search_spec.specs.Each.{Each}
+use Rattle.tableau_calculus.specs.Each.{Each}
 use Rattle.search_spec.specs.Shallow.{is_shallow_literal}
 use Rattle.search_spec.specs.Clauses.{instance_clauses, with_clauses}
 use Rattle.search_spec.specs.Queue.{new_entries}

@@ -5,9 +5,11 @@ use Rattle.stt_core.specs.Lambda.{Constant, name, witness, falsity, negation, im
 use Rattle.stt_core.specs.Typing.{Scope, constant_type, type_of}
 use Rattle.stt_core.specs.Lift.{lift}
 use Rattle.normal_forms.specs.Normal.{Way, eta, later, by_first, ways_at, ways_of, put, replace, apply_by, ways, apply}
-use Rattle.tableau_calculus.specs.Literals.{as_literal}
-use Rattle.tableau_calculus.specs.Rules.{at_new, agreement, nowhere, chosen, at_most_once, described, differ_each, Alternatives, imp_pos, imp_neg, bool_pos, bool_neg, fun_pos, fun_neg, all_pos, all_neg, differ, con, cho, des}
-use Rattle.search_spec.specs.Each.{Each}
+use Rattle.tableau_calculus.specs.Literals.{Literal, as_literal}
+use Rattle.tableau_calculus.specs.Rules.{at_new, agreement, nowhere, chosen, at_most_once, described, differ_each, Alone, Alternatives, bool_pos, bool_neg, fun_pos, fun_neg, all_pos, all_neg, differ, con, cho, des}
+use Rattle.tableau_calculus.specs.declared.rule_use.OnePlace.{OnePlace}
+use Rattle.tableau_calculus.proofs.AloneLaws.{IsOfParts, alone_parts}
+use Rattle.tableau_calculus.specs.Each.{Each}
 use Rattle.search_spec.specs.Spine.{head_of, arguments, is_compared, has_compared_head}
 use Rattle.search_spec.proofs.NamingLaws.{each-joined}
 use Rattle.type_bound.specs.Types.{IsShallowType}
@@ -130,12 +132,6 @@ module _ (limit : ℕ) where
   abbrev pub AreModest : Alternatives → Type 0
   AreModest as' = Each (Each (IsModestLiteral limit)) as'
 
-  pub imp_pos_keeps : (s t : Lambda) → Keeps s → Keeps t → AreModest (imp_pos s t)
-  imp_pos_keeps s t h k = ((as_literal_keeps s h, tt), ((as_literal_keeps t k, tt), tt))
-
-  pub imp_neg_keeps : (s t : Lambda) → Keeps s → Keeps t → AreModest (imp_neg s t)
-  imp_neg_keeps s t h k = ((as_literal_keeps s h, (as_literal_keeps t k, tt)), tt)
-
   pub bool_pos_keeps : (s t : Lambda) → Keeps s → Keeps t → AreModest (bool_pos s t)
   bool_pos_keeps s t h k = ((as_literal_keeps s h, (as_literal_keeps t k, tt)), ((as_literal_keeps s h, (as_literal_keeps t k, tt)), tt))
 
@@ -147,6 +143,15 @@ module _ (limit : ℕ) where
 
   pub fun_neg_keeps : (a b : SimpleType) (s t : Lambda) → nesting (arrow a b) ≤ limit → Keeps s → Keeps t → AreModest (fun_neg a b s t)
   fun_neg_keeps a b s t within h k = ((as_literal_keeps (agreement a b s t) (agreement_keeps a b s t within h k), tt), tt)
+
+  modest_parts : IsOfParts (IsModest limit)
+  modest_parts = record { negations = λ s h. h.1; implications = λ s t h. (h.0.1, h.1); equations = λ a s t h. (h.0.1, h.1) }
+
+  -- the alternatives of a rule that looks at its principal alone
+  pub alone_keeps : (kind : OnePlace) (l : Literal) (as' : Alternatives) → Alone kind l as' → IsModestLiteral limit l → AreModest as'
+  alone_keeps kind l as' fits h =
+      alone_parts (IsModest limit) modest_parts AreModest (λ bs each. each)
+      (λ a b s t g. (fun_pos_keeps a b s t g.0.0 g.0.1 g.1, fun_neg_keeps a b s t g.0.0 g.0.1 g.1)) kind l as' fits h
 
   pub all_pos_keeps : (f u : Lambda) → Keeps f → Keeps u → AreModest (all_pos f u)
   all_pos_keeps f u h k = ((as_literal_keeps (apply f u) (apply_keeps f u h k), tt), tt)

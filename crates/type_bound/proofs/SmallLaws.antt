@@ -5,7 +5,7 @@ use Rattle.stt_core.specs.Lambda.{Constant, name, witness, falsity, negation, im
 use Rattle.stt_core.specs.Depth.{depth}
 use Rattle.tableau_calculus.specs.Literals.{Literal}
 use Rattle.tableau_calculus.specs.Witnesses.{Row}
-use Rattle.search_spec.specs.Each.{Each}
+use Rattle.tableau_calculus.specs.Each.{Each}
 use Rattle.command_queue.specs.declared.entry.Entry.{Entry}
 use Rattle.search_spec.specs.State.{State, Command, process, mate, confront, inst, choose, describe, grow}
 use Rattle.refute_print.specs.Sizes.{IsSmallTerm, type_depth, nesting_in, nesting}

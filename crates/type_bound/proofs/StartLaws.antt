@@ -8,7 +8,7 @@ use Rattle.normal_forms.specs.Normal.{eta_if, normal_form}
 use Rattle.tableau_calculus.specs.Literals.{Literal}
 use Rattle.tableau_calculus.specs.Start.{normal_literal, denied}
 use Rattle.tableau_calculus.specs.Kinds.{has, added, formulas}
-use Rattle.search_spec.specs.Each.{Each}
+use Rattle.tableau_calculus.specs.Each.{Each}
 use Rattle.search_spec.proofs.NamingLaws.{each-joined, pick_good}
 use Rattle.search_spec.proofs.TypedPushes.{each_mapped}
 use Rattle.type_bound.specs.Types.{IsShallowType}

@@ -2,7 +2,7 @@ pub use Rattle.delta_defs.specs.Unfolding
 pub use Rattle.normal_forms.specs.Normal
 pub use Rattle.refute_print.specs.Sizes
 pub use Rattle.search_spec.specs.After
-pub use Rattle.search_spec.specs.Each
+pub use Rattle.tableau_calculus.specs.Each
 pub use Rattle.search_spec.specs.Partial
 pub use Rattle.search_spec.specs.Spine
 pub use Rattle.search_spec.specs.State

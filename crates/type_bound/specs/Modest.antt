@@ -7,7 +7,7 @@ use Rattle.delta_defs.specs.Unfolding.{unfolded_problem}
 use Rattle.tableau_calculus.specs.Literals.{Literal}
 use Rattle.tableau_calculus.specs.Start.{start}
 use Rattle.tableau_calculus.specs.Witnesses.{Row}
-use Rattle.search_spec.specs.Each.{Each}
+use Rattle.tableau_calculus.specs.Each.{Each}
 use Rattle.search_spec.specs.Spine.{head_of, has_compared_head}
 use Rattle.search_spec.specs.Partial.{Partial, hole, head, function, application}
 use Rattle.search_spec.specs.State.{State, Setting, Command, process, mate, confront, inst, choose, describe, grow}

@@ -1,7 +1,7 @@
 -- States of the search whose terms are small enough for a text.
 use Rattle.std.specs.Prelude.{◌≡◌, ◌≤◌, ℕ, List, Some}
 use Rattle.tableau_calculus.specs.Literals.{Literal}
-use Rattle.search_spec.specs.Each.{Each}
+use Rattle.tableau_calculus.specs.Each.{Each}
 use Rattle.search_spec.specs.State.{State, Setting, Command, process, mate, confront, inst, choose, describe, grow}
 use Rattle.search_spec.specs.After.{state_after}
 use Rattle.refute_print.specs.Sizes.{type_limit, type_depth, IsSmallTerm}

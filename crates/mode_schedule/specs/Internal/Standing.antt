@@ -1,7 +1,7 @@
 -- What a schedule's turns and searches stand for.
 use Rattle.std.specs.Prelude.{◌≡◌, ◌≢◌, ◌<◌, ◌≤◌, ◌+◌, ◌-◌, ◌*◌, ℕ, suc, Bool, false, List, [], ◌∷◌, map, length, slice_get, slice_index, sum, Option, Some, None}
 use Rattle.tableau_calculus.specs.Literals.{Literal}
-use Rattle.search_spec.specs.Each.{Each}
+use Rattle.tableau_calculus.specs.Each.{Each}
 use Rattle.search_spec.specs.State.{Setting}
 use Rattle.command_queue.specs.declared.entry.Entry.{Entry}
 use Rattle.mode_schedule.specs.declared.turns.Turn.{Turn}

@@ -6,7 +6,7 @@ use Rattle.tableau_calculus.specs.Witnesses.{with_rows}
 use Rattle.mode_file.specs.declared.Mode.{Mode}
 use Rattle.mode_file.specs.Given.{IsInRange}
 use Rattle.command_queue.specs.Queue.{Queue}
-use Rattle.search_spec.specs.Each.{Each}
+use Rattle.tableau_calculus.specs.Each.{Each}
 use Rattle.search_spec.specs.After.{state_after}
 use Rattle.literal_map.specs.Atoms.{bank_literal}
 use Rattle.tableau_clauses.specs.Table.{start_units}

@@ -1,7 +1,7 @@
 -- What the work on a literal depends on.
 use Rattle.std.specs.Prelude.{◌≡◌, zero, suc, Bool, not, ◌&&◌}
 use Rattle.stt_core.specs.SimpleType.{SimpleType, base, arrow}
-use Rattle.stt_core.specs.Lambda.{falsity, implication, all, equality, Lambda, constant, app, eq}
+use Rattle.stt_core.specs.Lambda.{all, equality, Lambda, constant, app, eq}
 use Rattle.tableau_calculus.specs.Literals.{Literal}
 use Rattle.sat_base.specs.declared.literal.SatLit.{SatLit}
 use Rattle.search_spec.specs.Partners.{has_equal_sides}
@@ -10,7 +10,7 @@ use Rattle.search_spec.specs.State.{State}
 use Rattle.prover_state.specs.declared.tables.Core.{Core}
 use Rattle.prover_state.specs.Internal.Advancing.{setting_in, state_in, the_literal}
 use Rattle.prover_search.specs.declared.shape.Shape.{Shape}
-use Rattle.prover_search.specs.declared.shape.Shape.TheVariants.{Falsity, Implication, FormulaEquation, FunctionEquation, BaseEquation, Quantified, Other}
+use Rattle.prover_search.specs.declared.shape.Shape.TheVariants.{FormulaEquation, FunctionEquation, BaseEquation, Quantified, Other}
 
 -- the shape of an equation between terms of a type
 abbrev pub equation_shape : SimpleType → Shape
@@ -19,8 +19,6 @@ equation_shape (base (suc n)) = BaseEquation (suc n)
 equation_shape (arrow a b) = FunctionEquation
 
 abbrev pub shape_of : Lambda → Shape
-shape_of (constant falsity) = Falsity
-shape_of (app (app (constant implication) s) t) = Implication
 shape_of (app (app (constant (equality a)) s) t) = equation_shape a
 shape_of (app (constant (all a)) f) = Quantified
 shape_of t = Other

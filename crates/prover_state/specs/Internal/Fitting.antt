@@ -3,7 +3,7 @@ use Rattle.std.specs.Prelude.{◌≡◌, ◌≤◌, ◌<◌, ◌||◌, ℕ, zero
 use Rattle.stt_core.specs.SimpleType.{SimpleType, base, formula}
 use Rattle.stt_core.specs.Lambda.{Lambda, constant, witness, falsity, negation, implication, all, equality, choice}
 use Rattle.stt_core.specs.Typing.{Scope}
-use Rattle.search_spec.specs.Each.{Each}
+use Rattle.tableau_calculus.specs.Each.{Each}
 use Rattle.search_spec.specs.Heads.{HeadOffers, places_to, is_offered, given_heads, is_none_given, logical_heads}
 use Rattle.search_spec.specs.Partial.{Hole}
 

@@ -12,7 +12,7 @@ use Rattle.search_spec.specs.Spine.{is_spine}
 use Rattle.search_spec.specs.State.{State, Command as Meant, mate, confront, inst, grow}
 use Rattle.search_spec.specs.Witness.{has_hole_of}
 use Rattle.search_spec.specs.Internal.Loops.{Loop}
-use Rattle.search_spec.specs.Each.{Each}
+use Rattle.tableau_calculus.specs.Each.{Each}
 use Rattle.command_queue.specs.declared.entry.Entry.{Entry}
 use Rattle.prover_state.specs.declared.command.Planned.{Planned}
 use Rattle.prover_state.specs.declared.command.Rest.{Rest}

@@ -2,7 +2,7 @@
 use Rattle.std.specs.Prelude.{◌≡◌, ◌==◌, ◌-◌, ◌≤◌, ◌<◌, ℕ, List, length, slice_get, nat_lt, Some, if◌then◌else◌}
 use Rattle.mode_file.specs.declared.Mode.{Mode}
 use Rattle.search_spec.specs.Defaults.{default_delay}
-use Rattle.search_spec.specs.Each.{Each}
+use Rattle.tableau_calculus.specs.Each.{Each}
 use Rattle.search_spec.specs.State.{Command as Meant, brings_default}
 use Rattle.prover_state.specs.declared.command.Command.{Command}
 use Rattle.prover_state.specs.declared.command.Over.{Over}

@@ -4,7 +4,7 @@ use Rattle.std.specs.List.{list_any}
 use Rattle.stt_core.specs.SimpleType.{SimpleType}
 use Rattle.stt_core.specs.Lambda.{Lambda, bound, constant, lam, app}
 use Rattle.stt_core.specs.SameTerm.{same_term}
-use Rattle.search_spec.specs.Each.{Each}
+use Rattle.tableau_calculus.specs.Each.{Each}
 use Rattle.search_spec.specs.Selections.{Selection, by_choice, by_description, selection_by, selections_in}
 use Rattle.search_spec.specs.Spine.{head_of, arguments}
 use Rattle.term_bank.specs.Terms.{term_at}

@@ -3,7 +3,7 @@ use Rattle.std.specs.Prelude.{◌≡◌, ◌≢◌, false, List, ◌++◌, map}
 use Rattle.tableau_calculus.specs.CutFree.{is_cut_use}
 use Rattle.tableau_calculus.specs.RuleUses.{principals_of, EachPart}
 use Rattle.refute_print.specs.Sizes.{IsSmallTerm}
-use Rattle.search_spec.specs.Each.{Each}
+use Rattle.tableau_calculus.specs.Each.{Each}
 use Rattle.term_bank.specs.Terms.{term_at}
 use Rattle.literal_map.specs.Atoms.{bank_literal}
 use Rattle.literal_map.specs.declared.instance.Instance.{Instance}

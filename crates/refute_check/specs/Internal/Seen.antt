@@ -1,7 +1,7 @@
 -- Literals of a text that have got their numbers.
 use Rattle.std.specs.Prelude.{◌≡◌, Some, Contains}
 use Rattle.sat_base.specs.declared.literal.SatLit.{SatLit}
-use Rattle.search_spec.specs.Each.{Each}
+use Rattle.tableau_calculus.specs.Each.{Each}
 use Rattle.refute_print.specs.Named.{Names}
 use Rattle.refute_print.specs.Trees.{LiteralTree}
 use Rattle.refute_check.specs.Numbered.{numbered_literal}

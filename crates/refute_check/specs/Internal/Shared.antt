@@ -12,7 +12,7 @@ use Rattle.term_bank.specs.Terms.{term_at}
 use Rattle.bank_normal.specs.Right.{IsRightNormaliser}
 use Rattle.literal_map.specs.Atoms.{bank_literal, IsAtom, Begins}
 use Rattle.witness_names.specs.Rows.{rows_of, AreRows}
-use Rattle.search_spec.specs.Each.{Each}
+use Rattle.tableau_calculus.specs.Each.{Each}
 use Rattle.refute_check.specs.declared.shared.Shared.{Shared}
 
 -- what is declared, the witnesses among it

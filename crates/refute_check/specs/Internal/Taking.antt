@@ -9,7 +9,7 @@ use Rattle.tableau_calculus.specs.Accepted.{IsTypedUse}
 use Rattle.tableau_calculus.specs.Checks.{FindsInstance}
 use Rattle.literal_map.specs.Numbers.{UseByNumbers}
 use Rattle.literal_map.specs.declared.instance.Instance.{Instance}
-use Rattle.search_spec.specs.Each.{Each}
+use Rattle.tableau_calculus.specs.Each.{Each}
 use Rattle.tableau_rules.specs.Uses.{use_of}
 use Rattle.refute_check.specs.declared.shared.Shared.{Shared}
 use Rattle.refute_check.specs.declared.taking.Taking.{Taking}

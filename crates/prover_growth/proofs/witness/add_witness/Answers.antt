@@ -3,7 +3,7 @@ use Rattle.stt_core.specs.Lambda.{witness, constant, every}
 use Rattle.tableau_calculus.specs.Literals.{Literal, minus}
 use Rattle.sat_base.specs.declared.literal.SatLit.{SatLit}
 use Rattle.literal_map.specs.Atoms.{bank_literal}
-use Rattle.search_spec.specs.Each.{Each}
+use Rattle.tableau_calculus.specs.Each.{Each}
 use Rattle.search_spec.specs.State.{Sketch, grow, with_commands}
 use Rattle.search_spec.specs.Witness.{has_hole_of}
 use Rattle.command_queue.specs.Queue.{Queue}

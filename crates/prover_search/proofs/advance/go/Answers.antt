@@ -1,5 +1,5 @@
 use Rattle.std.proofs.Common.{◌+◌, subst, sym, ◌∙◌}
-use Rattle.search_spec.specs.Each.{Each}
+use Rattle.tableau_calculus.specs.Each.{Each}
 use Rattle.search_spec.specs.TypedState.{IsTypedSketch, IsTypedCommand}
 use Rattle.type_bound.specs.Small.{IsSmallCommand}
 use Rattle.prover_state.specs.declared.tables.Tables.{Tables}

@@ -4,12 +4,6 @@ use Rattle.prover_search.proofs.AdvanceLaws.{alone-advances}
 use Rattle.prover_state.proofs.SelectingLaws.{on-ok}
 use Rattle.prover_search.proofs.work.work_by_shape.Goals as goal
 
-pub work_on_falsity-requires-clause-shape : goal.work_on_falsity-requires-clause-shape
-work_on_falsity-requires-clause-shape g c = ap shape_of (sym c.atom_of-atom.ensures.atom) ∙ sym c.shape_of.ensures ∙ c.in-Falsity.is
-
-pub work_on_implication-requires-clause-shape : goal.work_on_implication-requires-clause-shape
-work_on_implication-requires-clause-shape g c = ap shape_of (sym c.atom_of-atom.ensures.atom) ∙ sym c.shape_of.ensures ∙ c.in-Implication.is
-
 pub work_on_formulas-requires-clause-shape : goal.work_on_formulas-requires-clause-shape
 work_on_formulas-requires-clause-shape g c = ap shape_of (sym c.atom_of-atom.ensures.atom) ∙ sym c.shape_of.ensures ∙ c.in-FormulaEquation.is
 
@@ -24,12 +18,6 @@ work_on_quantified-requires-clause-shape g c = ap shape_of (sym c.atom_of-atom.e
 
 pub work_on_other-requires-clause-shape : goal.work_on_other-requires-clause-shape
 work_on_other-requires-clause-shape g c = ap shape_of (sym c.atom_of-atom.ensures.atom) ∙ sym c.shape_of.ensures ∙ c.in-Other.is
-
-pub returns-in-Falsity-clause-advances : goal.returns-in-Falsity-clause-advances
-returns-in-Falsity-clause-advances g c = on-ok c.work_on_falsity.result (alone-advances c.args.core.now c.work_on_falsity.new.core) c.work_on_falsity.ensures.advances
-
-pub returns-in-Implication-clause-advances : goal.returns-in-Implication-clause-advances
-returns-in-Implication-clause-advances g c = on-ok c.work_on_implication.result (alone-advances c.args.core.now c.work_on_implication.new.core) c.work_on_implication.ensures.advances
 
 pub returns-in-FormulaEquation-clause-advances : goal.returns-in-FormulaEquation-clause-advances
 returns-in-FormulaEquation-clause-advances g c = on-ok c.work_on_formulas.result (alone-advances c.args.core.now c.work_on_formulas.new.core) c.work_on_formulas.ensures.advances

@@ -2,7 +2,7 @@ use Rattle.std.proofs.Common.{◌<◌, ◌-◌, ◌++◌, ◌∷◌, [], List, l
 use Rattle.stt_core.proofs.ListLaws.{take_got}
 use Rattle.sat_base.specs.declared.literal.SatLit.{SatLit}
 use Rattle.sat_core.specs.Solver.{SolverState, learned}
-use Rattle.search_spec.specs.Each.{Each}
+use Rattle.tableau_calculus.specs.Each.{Each}
 use Rattle.search_spec.specs.Clauses.{instance_clauses}
 use Rattle.search_spec.specs.Numbered.{numbers}
 use Rattle.tableau_clauses.specs.Table.{the_clauses, the_instances}

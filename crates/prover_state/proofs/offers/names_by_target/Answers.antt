@@ -4,7 +4,7 @@ use Rattle.stt_core.specs.SimpleType.{base, target}
 use Rattle.stt_core.specs.TypedName.{TypedName}
 use Rattle.stt_core.specs.View.{the_type}
 use Rattle.instantiate.specs.Listing.{Listing, ids_of}
-use Rattle.search_spec.specs.Each.{Each}
+use Rattle.tableau_calculus.specs.Each.{Each}
 use Rattle.search_spec.specs.Heads.{is_offered, places_to}
 use Rattle.prover_state.proofs.EachLaws.{each-weaker}
 use Rattle.prover_state.proofs.EmptyLaws.{got-typed, below-more, offered-more}

@@ -2,7 +2,7 @@ use Rattle.std.proofs.Common.{◌≡◌, ◌<◌, ◌++◌, ℕ, drop, map}
 use Rattle.std.specs.Prelude.{filter}
 use Rattle.stt_core.specs.SimpleType.{base}
 use Rattle.instantiate.specs.Listing.{ids_of}
-use Rattle.search_spec.specs.Each.{Each}
+use Rattle.tableau_calculus.specs.Each.{Each}
 use Rattle.search_spec.specs.Heads.{is_offered, places_to}
 use Rattle.prover_state.proofs.offers.names_by_target.Given as goal
 

@@ -4,7 +4,7 @@ use Rattle.stt_core.proofs.ListLaws.{mapped_get}
 use Rattle.tableau_calculus.specs.Accepted.{AreChildren}
 use Rattle.tableau_calculus.proofs.ListLaws.{untrue}
 use Rattle.tableau_calculus.proofs.ChildLaws.{children_length, children_at, children-more}
-use Rattle.search_spec.specs.Each.{Each}
+use Rattle.tableau_calculus.specs.Each.{Each}
 use Rattle.refute_check.specs.Internal.Shared.{shared_atoms, literal_in, IsSharedNumber}
 use Rattle.refute_check.proofs.ChildLaws.{clashes_closed}
 use Rattle.refute_check.proofs.SharedLaws.{each_at}

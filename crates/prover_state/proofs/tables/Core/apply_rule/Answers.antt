@@ -3,7 +3,7 @@ use Rattle.tableau_calculus.specs.Literals.{Literal}
 use Rattle.sat_base.specs.declared.literal.SatLit.{SatLit}
 use Rattle.literal_map.specs.Atoms.{bank_literal}
 use Rattle.tableau_calculus.specs.RuleUses.{principals_of}
-use Rattle.search_spec.specs.Each.{Each}
+use Rattle.tableau_calculus.specs.Each.{Each}
 use Rattle.search_spec.specs.Instances.{with_instance}
 use Rattle.search_spec.specs.State.{State}
 use Rattle.prover_state.specs.Internal.Names.{IsNumberIn}

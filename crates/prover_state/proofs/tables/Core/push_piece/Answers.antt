@@ -1,5 +1,5 @@
 use Rattle.std.proofs.Common.{◌≡◌, ◌∷◌, List, Option, sym, ap, subst, ◌∙◌}
-use Rattle.search_spec.specs.Each.{Each}
+use Rattle.tableau_calculus.specs.Each.{Each}
 use Rattle.search_spec.specs.State.{Command as Meant, with_commands}
 use Rattle.prover_state.specs.declared.command.Rest.{Rest}
 use Rattle.prover_state.specs.Internal.Names.{command_at}

@@ -2,7 +2,7 @@ use Rattle.std.proofs.Common.{sym, ap, subst, ◌∙◌}
 use Rattle.stt_core.specs.SimpleType.{SimpleType}
 use Rattle.term_bank.specs.Content.{content_scope}
 use Rattle.term_bank.specs.Terms.{term_at}
-use Rattle.search_spec.specs.Each.{Each}
+use Rattle.tableau_calculus.specs.Each.{Each}
 use Rattle.search_spec.specs.Selections.{by_choice, by_description, with_selection, with_selections}
 use Rattle.search_spec.proofs.TypedSelections.{IsPredicate}
 use Rattle.prover_state.specs.Internal.Standing.{the_state}

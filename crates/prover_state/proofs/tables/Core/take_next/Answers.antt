@@ -1,6 +1,6 @@
 use Rattle.std.proofs.Common.{◌+◌, Option, Some, refl, sym, ap, subst, ◌∙◌, arith}
 use Rattle.command_queue.specs.Queue.{AddsEntryAt}
-use Rattle.search_spec.specs.Each.{Each}
+use Rattle.tableau_calculus.specs.Each.{Each}
 use Rattle.prover_state.specs.declared.command.Rest.{Rest}
 use Rattle.prover_state.specs.Internal.Names.{command_at}
 use Rattle.prover_state.specs.Internal.Pending.{later_of, AreThere, EndsBelow, IsApart}

@@ -1,5 +1,5 @@
 use Rattle.std.proofs.Common.{subst, sym}
-use Rattle.search_spec.specs.Each.{Each}
+use Rattle.tableau_calculus.specs.Each.{Each}
 use Rattle.refute_check.proofs.SharedLaws.{each_append}
 use Rattle.refute_check.proofs.SeenLaws.{IsRightNote}
 use Rattle.refute_check.proofs.seen.Seen.note.Goals as goal

@@ -1,5 +1,5 @@
 use Rattle.std.proofs.Common.{map, sym, subst}
-use Rattle.search_spec.specs.Each.{Each}
+use Rattle.tableau_calculus.specs.Each.{Each}
 use Rattle.refute_check.specs.Internal.Branches.{Represents, AreNumberedBranch}
 use Rattle.refute_check.specs.Internal.Shared.{shared_atoms, literal_in, IsSharedNumber}
 use Rattle.refute_check.proofs.shared.Shared.set_of.Goals as goal
