@@ -9,7 +9,7 @@ use Rattle.term_bank.specs.Terms.{term_at}
 use Rattle.tableau_calculus.specs.Each.{Each}
 use Rattle.search_spec.specs.Offers.{has_constant}
 use Rattle.head_offers.specs.Offering.{occurs_among}
-use Rattle.head_offers.specs.Internal.Marks.{is_marked, with_mark, with_marks, any_below, reaches}
+use Rattle.head_offers.specs.Internal.Marks.{is_flagged, with_mark, with_marks, any_below, reaches}
 use Rattle.head_offers.specs.Internal.Passing.{head_passes, any_passes}
 
 or_false : (b : Bool) → (b || false) ≡ b
@@ -55,7 +55,7 @@ mark-next ids i d old marks new l inv is =
     is ∙ ap (with_mark (get_or ids i d)) inv
     ∙ sym (ap (λ (xs : List ℕ). with_marks xs old) (take_more ids i d l) ∙ marks_append (take i ids) (get_or ids i d ∷ []) old)
 
-unmarked : (n i : ℕ) → is_marked (replicate n false) i ≡ false
+unmarked : (n i : ℕ) → is_flagged (replicate n false) i ≡ false
 unmarked zero i = refl
 unmarked (suc n) zero = refl
 unmarked (suc n) (suc i) = unmarked n i
@@ -82,9 +82,9 @@ module _ (terms : List Lambda) (test : Constant → Bool) where
 
   at_place : (marks : List Bool) (i n : ℕ) → i < suc n → suc n ≤ length marks → n ≡ i → any_below (reaches terms test (with_mark i marks)) (suc n) ≡ (any_below (reaches terms test marks) (suc n) || has i)
   at_place marks i n h l e =
-      let marked : is_marked (with_mark i marks) n ≡ true = ap (is_marked (with_mark i marks)) e ∙ get_or-set_same marks i true false (omega (arith, h, l, e)) in
+      let marked : is_flagged (with_mark i marks) n ≡ true = ap (is_flagged (with_mark i marks)) e ∙ get_or-set_same marks i true false (omega (arith, h, l, e)) in
       ap₂ (λ (x y : Bool). x || y) (ap (λ (b : Bool). b && has n) marked ∙ ap has e) (below_kept marks i n (omega (arith, e)))
-      ∙ turned (is_marked marks n) (has n) (has i) (any_below (reaches terms test marks) n) (ap has e)
+      ∙ turned (is_flagged marks n) (has n) (has i) (any_below (reaches terms test marks) n) (ap has e)
 
   -- a mark more reaches what its term has
   reach_one : (marks : List Bool) (i n : ℕ) → i < n → n ≤ length marks → any_below (reaches terms test (with_mark i marks)) n ≡ (any_below (reaches terms test marks) n || has i)
@@ -107,7 +107,7 @@ module _ (terms : List Lambda) (test : Constant → Bool) where
       ∙ ap (λ (b : Bool). b || list_any has is) (reach_one marks i n h.0 l)
       ∙ sym (or_assoc (any_below (reaches terms test marks) n) (has i) (list_any has is))
 
-  reach_none : (marks : List Bool) (n : ℕ) → ((i : ℕ) → is_marked marks i ≡ false) → any_below (reaches terms test marks) n ≡ false
+  reach_none : (marks : List Bool) (n : ℕ) → ((i : ℕ) → is_flagged marks i ≡ false) → any_below (reaches terms test marks) n ≡ false
   reach_none marks zero h = refl
   reach_none marks (suc n) h = ap₂ (λ (x y : Bool). x || y) (ap (λ (b : Bool). b && has n) (h n)) (reach_none marks n h)
 
@@ -136,7 +136,7 @@ module _ (terms : List Lambda) (test : Constant → Bool) where
   any_last (y ∷ ys) x = ap (λ (b : Bool). head_passes test (term_at terms y) || b) (any_last ys x) ∙ or_assoc (head_passes test (term_at terms y)) (any_passes terms test ys) (head_passes test (term_at terms x))
 
   -- a marked term is found, and its parts are marked
-  pub reach-found : (marks : List Bool) (found parts : List ℕ) (j : ℕ) → is_marked marks j ≡ true → has_constant test (term_at terms j) ≡ (head_passes test (term_at terms j) || list_any (λ i. has_constant test (term_at terms i)) parts) → Each (λ i. i < j) parts → j ≤ length marks
+  pub reach-found : (marks : List Bool) (found parts : List ℕ) (j : ℕ) → is_flagged marks j ≡ true → has_constant test (term_at terms j) ≡ (head_passes test (term_at terms j) || list_any (λ i. has_constant test (term_at terms i)) parts) → Each (λ i. i < j) parts → j ≤ length marks
       → (any_passes terms test (found ++ j ∷ []) || any_below (reaches terms test (with_marks parts marks)) j) ≡ (any_passes terms test found || any_below (reaches terms test marks) (suc j))
   reach-found marks found parts j marked are h l =
       let below = any_below (reaches terms test marks) j in
@@ -144,5 +144,5 @@ module _ (terms : List Lambda) (test : Constant → Bool) where
       ∙ sym (shuffled (any_passes terms test found) (head_passes test (term_at terms j)) (list_any has parts) below)
       ∙ ap (λ (b : Bool). any_passes terms test found || (b || below)) (sym (ap (λ (b : Bool). b && has j) marked ∙ are))
 
-  pub reach-left : (marks : List Bool) (found : List ℕ) (j : ℕ) → is_marked marks j ≡ false → (any_passes terms test found || any_below (reaches terms test marks) j) ≡ (any_passes terms test found || any_below (reaches terms test marks) (suc j))
+  pub reach-left : (marks : List Bool) (found : List ℕ) (j : ℕ) → is_flagged marks j ≡ false → (any_passes terms test found || any_below (reaches terms test marks) j) ≡ (any_passes terms test found || any_below (reaches terms test marks) (suc j))
   reach-left marks found j left = ap (λ (b : Bool). any_passes terms test found || (b || any_below (reaches terms test marks) j)) (sym (ap (λ (b : Bool). b && has j) left))

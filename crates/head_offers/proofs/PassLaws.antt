@@ -17,7 +17,7 @@ use Rattle.term_bank.specs.Shape.{Shape, abstraction, spine}
 use Rattle.tableau_calculus.specs.Each.{Each}
 use Rattle.search_spec.specs.Offers.{has_constant, is_name, is_over, has_base}
 use Rattle.head_offers.specs.Internal.Marks.{parts_of}
-use Rattle.head_offers.specs.Internal.Passing.{head_passes, name_in, ranged_in, is_number, has_base_if_any}
+use Rattle.head_offers.specs.Internal.Passing.{head_passes, name_number, ranged_in, is_number, has_base_if_any}
 use Rattle.head_offers.proofs.MarkLaws.{each-of-All}
 
 or_assoc : (a b c : Bool) → (a || (b || c)) ≡ ((a || b) || c)
@@ -56,7 +56,7 @@ has-parts test terms (spine h is) k =
 
 -- NAMES AND TYPES
 
-pub name-passes : (k : ℕ) (h : Lambda) → IsAtom h → head_passes (is_name k) h ≡ is_number k (name_in h)
+pub name-passes : (k : ℕ) (h : Lambda) → IsAtom h → head_passes (is_name k) h ≡ is_number k (name_number h)
 name-passes k (bound j) a = refl
 name-passes k (constant (name j)) a = refl
 name-passes k (constant (witness j)) a = refl
@@ -70,7 +70,7 @@ name-passes k (constant (description b)) a = refl
 name-passes k (lam b s) a = absurd a
 name-passes k (app s u) a = absurd a
 
-pub no-name-passes : (names : List SimpleType) (n : ℕ) (h : Lambda) → IsAtom h → None ≡ name_in h → head_passes (is_over names n) h ≡ has_base_if_any n (ranged_in h)
+pub no-name-passes : (names : List SimpleType) (n : ℕ) (h : Lambda) → IsAtom h → None ≡ name_number h → head_passes (is_over names n) h ≡ has_base_if_any n (ranged_in h)
 no-name-passes names n (bound j) a e = refl
 no-name-passes names n (constant (name j)) a e = cc
 no-name-passes names n (constant (witness j)) a e = refl
@@ -94,7 +94,7 @@ over_name names n k o e (Some a) at h = ap (has_base n) (got names k a at) ∙ s
 over_name names n k o e None at h = cc
 
 -- a name's type is the one that it is declared with
-pub some-name-passes : (scope : Scope) (ctx : List SimpleType) (n k : ℕ) (h : Lambda) → Some k ≡ name_in h → (o : Option SimpleType) → o ≡ slice_get scope.names k → IsSome (type_of scope ctx h) → head_passes (is_over scope.names n) h ≡ has_base_if_any n o
+pub some-name-passes : (scope : Scope) (ctx : List SimpleType) (n k : ℕ) (h : Lambda) → Some k ≡ name_number h → (o : Option SimpleType) → o ≡ slice_get scope.names k → IsSome (type_of scope ctx h) → head_passes (is_over scope.names n) h ≡ has_base_if_any n o
 some-name-passes scope ctx n k (bound j) e o g t = cc
 some-name-passes scope ctx n k (constant (name j)) e o g t =
     let same : k ≡ j = some_is k j e in

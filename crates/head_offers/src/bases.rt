@@ -4,7 +4,7 @@ ghost use Rattle.std.specs.List.{All};
 ghost use Rattle.stt_core.specs.View.{the_type, the_head};
 ghost use Rattle.term_bank.specs.Terms.{term_at};
 ghost use Rattle.search_spec.specs.Offers.{has_base, is_over};
-ghost use Rattle.head_offers.specs.Internal.Marks.{is_marked};
+ghost use Rattle.head_offers.specs.Internal.Marks.{is_flagged};
 ghost use Rattle.head_offers.specs.Internal.Passing.{head_passes, any_passes, ranged_in, has_base_if_any};
 
 use crate::marks::mark;
@@ -16,7 +16,7 @@ use term_bank::{Bank, Id, Node};
 /// Marks the base types in a type.
 fn mark_bases(flags: &mut Vec<bool>, ty: &Ty)
     ensures length { length flags.new.items ≡ length flags.old.items }
-    ensures flags { (n : ℕ) → n < length flags.old.items → is_marked flags.new.items n ≡ (is_marked flags.old.items n || has_base n (the_type ty.now)) }
+    ensures flags { (n : ℕ) → n < length flags.old.items → is_flagged flags.new.items n ≡ (is_flagged flags.old.items n || has_base n (the_type ty.now)) }
 {
     match ty {
         Ty::Base(n) => mark(flags, *n as usize),
@@ -63,7 +63,7 @@ fn type_at(bank: &Bank, id: Id) -> Option<&Ty>
 fn mark_at(flags: &mut Vec<bool>, bank: &Bank, id: Id)
     requires { id < length bank.now.terms }
     ensures length { length flags.new.items ≡ length flags.old.items }
-    ensures flags { (n : ℕ) → n < length flags.old.items → is_marked flags.new.items n ≡ (is_marked flags.old.items n || head_passes (is_over (map (λ c. c.type) bank.now.consts) n) (term_at bank.now.terms id)) }
+    ensures flags { (n : ℕ) → n < length flags.old.items → is_flagged flags.new.items n ≡ (is_flagged flags.old.items n || head_passes (is_over (map (λ c. c.type) bank.now.consts) n) (term_at bank.now.terms id)) }
 {
     match type_at(bank, id) {
         Some(ty) => mark_bases(flags, ty),
@@ -80,7 +80,7 @@ pub(crate) fn bases_at_heads(
 ) -> Result<Vec<bool>, AllocError>
     requires within { All (λ id. id < length bank.now.terms) found.now }
     ensures length { IfOk result (λ flags. length flags.items ≡ count) }
-    ensures flags { (n : ℕ) → n < count → IfOk result (λ flags. is_marked flags.items n ≡ any_passes bank.now.terms (is_over (map (λ c. c.type) bank.now.consts) n) found.now) }
+    ensures flags { (n : ℕ) → n < count → IfOk result (λ flags. is_flagged flags.items n ≡ any_passes bank.now.terms (is_over (map (λ c. c.type) bank.now.consts) n) found.now) }
 {
     let mut flags = vec![in alloc; false; count]?;
     for i in 0..found.len() {

@@ -4,8 +4,8 @@ ghost use Rattle.std.specs.List.{All};
 ghost use Rattle.stt_core.specs.View.{the_head};
 ghost use Rattle.term_bank.specs.Terms.{term_at};
 ghost use Rattle.search_spec.specs.Offers.{is_name};
-ghost use Rattle.head_offers.specs.Internal.Marks.{is_marked};
-ghost use Rattle.head_offers.specs.Internal.Passing.{head_passes, any_passes, name_in, is_number};
+ghost use Rattle.head_offers.specs.Internal.Marks.{is_flagged};
+ghost use Rattle.head_offers.specs.Internal.Passing.{head_passes, any_passes, name_number, is_number};
 
 use crate::marks::mark;
 use std::alloc::{AllocError, Global};
@@ -14,7 +14,7 @@ use term_bank::{Bank, Id, Node};
 
 /// The name that a head is, where it is one.
 pub(crate) fn name_of(head: &Head) -> Option<u32>
-    ensures { result ≡ name_in (the_head head.now) }
+    ensures { result ≡ name_number (the_head head.now) }
 {
     match head {
         Head::Bound(_) => None,
@@ -44,7 +44,7 @@ fn name_at(bank: &Bank, id: Id) -> Option<u32>
 /// Marks a name, where there is one.
 fn mark_name(flags: &mut Vec<bool>, name: Option<u32>)
     ensures length { length flags.new.items ≡ length flags.old.items }
-    ensures flags { (k : ℕ) → k < length flags.old.items → is_marked flags.new.items k ≡ (is_marked flags.old.items k || is_number k name) }
+    ensures flags { (k : ℕ) → k < length flags.old.items → is_flagged flags.new.items k ≡ (is_flagged flags.old.items k || is_number k name) }
 {
     match name {
         Some(k) => mark(flags, k as usize),
@@ -61,7 +61,7 @@ pub(crate) fn names_at_heads(
 ) -> Result<Vec<bool>, AllocError>
     requires within { All (λ id. id < length bank.now.terms) found.now }
     ensures length { IfOk result (λ flags. length flags.items ≡ count) }
-    ensures flags { (k : ℕ) → k < count → IfOk result (λ flags. is_marked flags.items k ≡ any_passes bank.now.terms (is_name k) found.now) }
+    ensures flags { (k : ℕ) → k < count → IfOk result (λ flags. is_flagged flags.items k ≡ any_passes bank.now.terms (is_name k) found.now) }
 {
     let mut flags = vec![in alloc; false; count]?;
     for i in 0..found.len() {

@@ -12,7 +12,7 @@ use Rattle.plain_tableau.specs.Trees.{TreeInstance, PlainTree, closed, node, Pla
 use Rattle.plain_tableau.specs.Expansion.{is_closed_branch, next_due, Expanded, found, open_at, over, put_under, put_before, Expands, closes, stays_open, is_over, makes, ExpandEach, no_more, open_below, over_below, goes_on}
 use Rattle.plain_tableau.specs.Lines.{tree_child, tree_children, node_line, lines_for_tree, lines_for_trees}
 use Rattle.plain_tableau.specs.declared.walk.Frame.{Frame}
-use Rattle.plain_tableau.specs.Internal.Walking.{with_last, joined, trees_behind, count, Below, with_tree, left_of, made_in, written, Returns, GoesEach, Goes, IsFrame, AreFrames, IsAhead, IsBack, IsWalkDone, WalkStands, IsFull}
+use Rattle.plain_tableau.specs.Internal.Walking.{with_last, trees_joined, trees_behind, count, Below, with_tree, left_of, made_in, written, Returns, GoesEach, Goes, IsFrame, AreFrames, IsAhead, IsBack, IsWalkDone, WalkStands, IsFull}
 use Rattle.plain_tableau.proofs.LineLaws.{count_all}
 
 -- one tree more
@@ -24,16 +24,16 @@ pub count_last : (ts : PlainTrees SatLit) (t : PlainTree SatLit) → count (with
 count_last none t = refl
 count_last (more s ts) t = ap suc (count_last ts t)
 
-joined_last : (ts : PlainTrees SatLit) (t : PlainTree SatLit) (us : PlainTrees SatLit) → joined (with_last ts t) us ≡ joined ts (more t us)
-joined_last none t us = refl
-joined_last (more s ts) t us = ap (more s) (joined_last ts t us)
+trees_joined_last : (ts : PlainTrees SatLit) (t : PlainTree SatLit) (us : PlainTrees SatLit) → trees_joined (with_last ts t) us ≡ trees_joined ts (more t us)
+trees_joined_last none t us = refl
+trees_joined_last (more s ts) t us = ap (more s) (trees_joined_last ts t us)
 
-pub joined-none : (ts : PlainTrees SatLit) → joined ts none ≡ ts
-joined-none none = refl
-joined-none (more t ts) = ap (more t) (joined-none ts)
+pub trees_joined-none : (ts : PlainTrees SatLit) → trees_joined ts none ≡ ts
+trees_joined-none none = refl
+trees_joined-none (more t ts) = ap (more t) (trees_joined-none ts)
 
 behind_last : (ts : PlainTrees SatLit) (t : PlainTree SatLit) (r : Expanded SatLit (PlainTrees SatLit)) → trees_behind (with_last ts t) r ≡ trees_behind ts (put_before t r)
-behind_last ts t (found us) = ap found (joined_last ts t us)
+behind_last ts t (found us) = ap found (trees_joined_last ts t us)
 behind_last ts t (open_at b) = refl
 behind_last ts t over = refl
 
@@ -140,7 +140,7 @@ module _ (used : List (TreeInstance SatLit)) (limit : ℕ) where
   finished gs g e r h = (
     found none,
     subst (λ ls. Each (made_in (g ∷ gs)) g.branch ls (found none)) (sym e) (no_more (made_in (g ∷ gs)) g.branch),
-    subst (λ ts. Returns used limit gs (found (node g.instance g.branch ts)) r) (sym (joined-none g.done)) h,
+    subst (λ ts. Returns used limit gs (found (node g.instance g.branch ts)) r) (sym (trees_joined-none g.done)) h,
   )
 
   pub finish_whole : (start : List SatLit) (g : Below) → left_of g ≡ [] → ((r : Expanded SatLit (PlainTree SatLit)) → GoesEach used limit [] g r → Expands numbers used limit 0 start r) → Expands numbers used limit 0 start (found (node g.instance g.branch g.done))

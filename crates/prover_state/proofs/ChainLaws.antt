@@ -9,7 +9,7 @@ use Rattle.stt_core.proofs.ListLaws.{mapped_get, map-append}
 use Rattle.tableau_calculus.specs.Each.{Each}
 use Rattle.search_spec.specs.Partial.{Hole}
 use Rattle.prover_state.proofs.EachLaws.{each-weaker, map-same}
-use Rattle.prover_state.specs.Internal.Chains.{Cell, chain, AreLinked, ExtendsCells}
+use Rattle.prover_state.specs.Internal.Chains.{Cell, chain, AreChained, ExtendsCells}
 
 -- the newest list
 pub chain-newest : (c : Cell) (older : List Cell) → chain (c ∷ older) (suc (length older)) ≡ c.0 ∷ chain older c.1
@@ -44,7 +44,7 @@ extends-cell c older = record { longer = omega arith; kept = λ k h. chain-kept 
 pub extends-later : (a b c : List Cell) → ExtendsCells a b → ExtendsCells b c → ExtendsCells a c
 extends-later a b c e f = record { longer = omega (arith, e.longer, f.longer); kept = λ k h. f.kept k (omega (arith, h, e.longer)) ∙ e.kept k h }
 
-module _ (d : Cell) (older : List Cell) (n : ℕ) (c : Cell) (linked : AreLinked (d ∷ older)) (e : c ≡ get_or (d ∷ older) (suc (length older) - suc n) c) where
+module _ (d : Cell) (older : List Cell) (n : ℕ) (c : Cell) (linked : AreChained (d ∷ older)) (e : c ≡ get_or (d ∷ older) (suc (length older) - suc n) c) where
   at_newest : n ≡ length older → (chain (d ∷ older) (suc n) ≡ c.0 ∷ chain (d ∷ older) c.1) × (c.1 ≤ n)
   at_newest s =
       let is : d ≡ c = sym (e ∙ ap (λ i. get_or (d ∷ older) i c) (let z : suc (length older) - suc n ≡ 0 = omega (arith, s) in z)) in
@@ -61,7 +61,7 @@ module _ (d : Cell) (older : List Cell) (n : ℕ) (c : Cell) (linked : AreLinked
   )
 
 -- what stands at a place, counted from the oldest one, begins its list
-pub chain-at : (cells : List Cell) (n : ℕ) (c : Cell) → AreLinked cells → n < length cells → c ≡ get_or cells (length cells - suc n) c → (chain cells (suc n) ≡ c.0 ∷ chain cells c.1) × (c.1 ≤ n)
+pub chain-at : (cells : List Cell) (n : ℕ) (c : Cell) → AreChained cells → n < length cells → c ≡ get_or cells (length cells - suc n) c → (chain cells (suc n) ≡ c.0 ∷ chain cells c.1) × (c.1 ≤ n)
 chain-at [] n c linked h e = absurd (omega (arith, h))
 chain-at (d ∷ older) n c linked h e = go (eqb_tells n (length older)) (chain-at older n c linked.1)
   where
@@ -73,7 +73,7 @@ chain-at (d ∷ older) n c linked h e = go (eqb_tells n (length older)) (chain-a
         at_older d older n c linked e before (there before (e ∙ ap (λ i. get_or (d ∷ older) i c) step))
 
 -- the same by a list with the oldest one first
-pub chain-placed : (items : List Cell) (n : ℕ) (c : Cell) → AreLinked (reverse items) → n < length items → c ≡ get_or items n c → (chain (reverse items) (suc n) ≡ c.0 ∷ chain (reverse items) c.1) × (c.1 ≤ n)
+pub chain-placed : (items : List Cell) (n : ℕ) (c : Cell) → AreChained (reverse items) → n < length items → c ≡ get_or items n c → (chain (reverse items) (suc n) ≡ c.0 ∷ chain (reverse items) c.1) × (c.1 ≤ n)
 chain-placed items n c linked h e =
     let size = length-reverse items in
     let back : length items - 1 - (length (reverse items) - suc n) ≡ n = omega (arith, h, size) in

@@ -128,7 +128,7 @@ impl Model for Cells {
     ghost use Rattle.std.specs.Prelude.{List, reverse};
     ghost use Rattle.std.specs.Coded.{coded_list, coded×, coded_ℕ};
     ghost use Rattle.prover_state.specs.Internal.Holes.{hole_code};
-    ghost use Rattle.prover_state.specs.Internal.Chains.{Cell as Linked, AreLinked};
+    ghost use Rattle.prover_state.specs.Internal.Chains.{Cell as Linked, AreChained};
 
     ghost Value = { List Linked };
 
@@ -136,7 +136,7 @@ impl Model for Cells {
 
     ghost view = { λ c. reverse c.items.items };
 
-    ghost invariant = { λ c. AreLinked (reverse c.items.items) };
+    ghost invariant = { λ c. AreChained (reverse c.items.items) };
 }
 
 impl Cells {

@@ -8,49 +8,18 @@ ghost use Rattle.tableau_calculus.specs.Literals.{IsBranch};
 ghost use Rattle.tableau_calculus.specs.Witnesses.{Row};
 ghost use Rattle.tableau_calculus.specs.Accepted.{IsTypedUse};
 ghost use Rattle.tableau_calculus.specs.Checks.{FindsInstance};
-ghost use Rattle.tableau_calculus.specs.declared.rule_use.RuleUse.TheVariants.{AtOne, AtTwo, WithPredicate};
+ghost use Rattle.tableau_calculus.specs.declared.rule_use.RuleUse.TheVariants.{AtTwo, WithPredicate};
 
+use crate::alone::at_one;
 use crate::alternatives::Alternatives;
-use crate::decompose::{dec_instance, mat_instance};
+use crate::decompose::mat_instance;
 use crate::description::des_instance;
-use crate::equation::{bool_neg_instance, bool_pos_instance, con_instance, refl_instance};
-use crate::propositional::{
-    close_instance, cut_instance, false_instance, imp_neg_instance, imp_pos_instance,
-};
-use crate::quantifier::{
-    all_neg_instance, all_pos_instance, cho_instance, fun_neg_instance, fun_pos_instance,
-};
+use crate::equation::con_instance;
+use crate::opposites::{close_instance, cut_instance};
+use crate::quantifier::{all_pos_instance, cho_instance};
 use std::alloc::{AllocError, Global};
 use stt_core::{Nf, Signature, Types};
-use tableau_calculus::{Lits, OfPredicate, OnePlace, PlainRule, Rows, RuleUse, TwoPlaces};
-
-/// The alternatives of a rule whose principal stands at its place in the branch, or none where it doesn't fit.
-fn at_one(
-    alloc: Global,
-    sig: &Signature,
-    types: &Types,
-    rows: &Rows,
-    branch: &Lits,
-    rule: OnePlace,
-    i: usize,
-) -> Result<Option<Alternatives>, AllocError>
-    requires types { types.now ≡ map (λ r. r.type) rows.now }
-    requires branch { IsBranch (the_scope sig.now types.now) branch.now }
-    ensures { IfOk result (FindsInstance (the_scope sig.now types.now) rows.now branch.now (AtOne rule i)) }
-{
-    match rule {
-        OnePlace::False => Ok(false_instance(alloc, branch, i)),
-        OnePlace::Refl => Ok(refl_instance(alloc, branch, i)),
-        OnePlace::ImpPos => Ok(imp_pos_instance(alloc, branch, i)?),
-        OnePlace::ImpNeg => Ok(imp_neg_instance(alloc, branch, i)?),
-        OnePlace::BoolPos => Ok(bool_pos_instance(alloc, branch, i)?),
-        OnePlace::BoolNeg => Ok(bool_neg_instance(alloc, branch, i)?),
-        OnePlace::FunPos => Ok(fun_pos_instance(alloc, branch, i)?),
-        OnePlace::FunNeg => Ok(fun_neg_instance(alloc, branch, i)?),
-        OnePlace::AllNeg => Ok(all_neg_instance(alloc, rows, branch, i)?),
-        OnePlace::Dec => Ok(dec_instance(alloc, sig, types, branch, i)?),
-    }
-}
+use tableau_calculus::{Lits, OfPredicate, PlainRule, Rows, RuleUse, TwoPlaces};
 
 /// The alternatives of a rule whose principals stand at its places in the branch, or none where it doesn't fit.
 fn at_two(

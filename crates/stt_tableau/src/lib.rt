@@ -2,6 +2,7 @@
 #![tactic(auto)]
 
 mod accepts;
+mod alone;
 mod alternatives;
 mod children;
 mod decompose;
@@ -9,7 +10,7 @@ mod description;
 mod equation;
 mod formula;
 mod instance;
-mod propositional;
+mod opposites;
 mod quantifier;
 mod start;
 

@@ -10,7 +10,7 @@ use Rattle.sat_base.specs.declared.literal.SatLit.{SatLit}
 use Rattle.literal_map.specs.declared.instance.Instance.{Instance}
 use Rattle.tableau_clauses.specs.declared.instances.PackedInstance.{PackedInstance}
 use Rattle.tableau_clauses.specs.declared.lists.Span.{Span}
-use Rattle.tableau_clauses.specs.Internal.Spans.{piece_of, spanned, all_spanned, AreSpans, with_lists, unpacked_instance, all_unpacked, HaveLists}
+use Rattle.tableau_clauses.specs.Internal.Spans.{piece_of, spanned, all_spanned, AreSpans, with_alternatives, unpacked_instance, all_unpacked, HaveLists}
 
 -- a piece is as it was where items are appended
 piece-append : {X : Type 0} → (xs more : List X) (start len : ℕ) → start + len ≤ length xs → piece_of (xs ++ more) start len ≡ piece_of xs start len
@@ -53,14 +53,14 @@ HasLists lists i = (i.start + i.len ≤ length lists) × (suc 0 ≤ i.len)
 pub all_unpacked-append : (lists more : List (List SatLit)) (instances : List PackedInstance) → HaveLists lists instances → all_unpacked (lists ++ more) instances ≡ all_unpacked lists instances
 all_unpacked-append lists more [] have = refl
 all_unpacked-append lists more (i ∷ instances) have =
-    ap₂ (λ (j : Instance) (all : List Instance). j ∷ all) (ap (with_lists i) (piece-append lists more i.start i.len (All-head (HasLists lists) i instances have).0))
+    ap₂ (λ (j : Instance) (all : List Instance). j ∷ all) (ap (with_alternatives i) (piece-append lists more i.start i.len (All-head (HasLists lists) i instances have).0))
     (all_unpacked-append lists more instances (All-tail (HasLists lists) i instances have))
 
 pub all_unpacked-push : (lists own : List (List SatLit)) (instances : List PackedInstance) (i : PackedInstance) → HaveLists lists instances → i.start ≡ length lists → i.len ≡ length own
-    → all_unpacked (lists ++ own) (instances ++ i ∷ []) ≡ all_unpacked lists instances ++ with_lists i own ∷ []
+    → all_unpacked (lists ++ own) (instances ++ i ∷ []) ≡ all_unpacked lists instances ++ with_alternatives i own ∷ []
 all_unpacked-push lists own instances i have start len =
     map-append (unpacked_instance (lists ++ own)) instances (i ∷ [])
-    ∙ ap₂ (λ (all : List Instance) (j : Instance). all ++ j ∷ []) (all_unpacked-append lists own instances have) (ap (with_lists i) (piece-last lists own i.start i.len start len))
+    ∙ ap₂ (λ (all : List Instance) (j : Instance). all ++ j ∷ []) (all_unpacked-append lists own instances have) (ap (with_alternatives i) (piece-last lists own i.start i.len start len))
 
 pub lists-append : (lists more : List (List SatLit)) (instances : List PackedInstance) → HaveLists lists instances → HaveLists (lists ++ more) instances
 lists-append lists more instances have =

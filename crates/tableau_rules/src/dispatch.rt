@@ -13,16 +13,14 @@ ghost use Rattle.tableau_rules.specs.Changes.{Widens, makes_witness, denial_of, 
 ghost use Rattle.tableau_rules.specs.Internal.Declaring.{AreDeclaredIn};
 ghost use Rattle.tableau_rules.specs.Internal.Used.{DraftedBy, WitnessesWhere, IsDenialOf};
 
+use crate::alone::at_one;
 use crate::choice::{cho_drafts, des_drafts};
 use crate::draft::Drafts;
-use crate::equation::{bool_neg_drafts, bool_pos_drafts, con_drafts, refl_drafts};
-use crate::function::{fun_neg_drafts, fun_pos_drafts};
+use crate::equation::con_drafts;
 use crate::number::principal_of;
-use crate::propositional::{
-    close_drafts, cut_drafts, false_drafts, imp_neg_drafts, imp_pos_drafts,
-};
+use crate::opposites::{close_drafts, cut_drafts};
 use crate::quantifier::all_pos_drafts;
-use crate::spine::{dec_drafts, mat_drafts};
+use crate::spine::mat_drafts;
 use crate::witness::all_neg_drafts;
 use bank_normal::Normaliser;
 use literal_map::{BankUse, LitTable};
@@ -31,34 +29,6 @@ use std::alloc::{AllocError, Global};
 use tableau_calculus::{OfPredicate, OnePlace, RuleUse, TwoPlaces};
 use term_bank::{Bank, Id};
 use witness_names::Witnesses;
-
-fn at_one(
-    alloc: Global,
-    bank: &mut Bank,
-    lits: &LitTable,
-    rule: OnePlace,
-    lit: SatLit,
-) -> Result<Option<Drafts>, AllocError>
-    requires rule { makes_witness rule ≡ false }
-    requires number { lit.var.0 < length lits.now }
-    requires atoms { All (IsAtom bank.old) lits.now }
-    ensures drafted { IfOk result (λ o. (rows : List Row) → DraftedBy bank.new lits.now rows (AtOne rule lit) o) }
-    ensures grows { Grows bank.old bank.new }
-{
-    let p = principal_of(&*bank, lits, lit);
-    match rule {
-        OnePlace::False => Ok(false_drafts(alloc, &*bank, p)),
-        OnePlace::Refl => Ok(refl_drafts(alloc, &*bank, p)),
-        OnePlace::ImpPos => Ok(imp_pos_drafts(alloc, &*bank, p)?),
-        OnePlace::ImpNeg => Ok(imp_neg_drafts(alloc, &*bank, p)?),
-        OnePlace::BoolPos => Ok(bool_pos_drafts(alloc, &*bank, p)?),
-        OnePlace::BoolNeg => Ok(bool_neg_drafts(alloc, &*bank, p)?),
-        OnePlace::FunPos => Ok(fun_pos_drafts(alloc, bank, p)?),
-        OnePlace::FunNeg => Ok(fun_neg_drafts(alloc, bank, p)?),
-        OnePlace::AllNeg => unreachable!(),
-        OnePlace::Dec => Ok(dec_drafts(alloc, bank, p)?),
-    }
-}
 
 fn at_two(
     alloc: Global,

@@ -1,6 +1,7 @@
 //! The rules of the calculus over shared terms.
 #![tactic(auto)]
 
+mod alone;
 mod choice;
 mod dispatch;
 mod draft;
@@ -8,8 +9,8 @@ mod equation;
 mod function;
 mod maker;
 mod number;
+mod opposites;
 mod part;
-mod propositional;
 mod quantifier;
 mod refusal;
 mod spine;

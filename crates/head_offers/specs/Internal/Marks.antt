@@ -5,8 +5,8 @@ use Rattle.term_bank.specs.Shape.{Shape, abstraction, spine}
 use Rattle.term_bank.specs.Terms.{term_at}
 use Rattle.search_spec.specs.Offers.{has_constant}
 
-abbrev pub is_marked : List Bool → ℕ → Bool
-is_marked marks i = slice_index_or marks i false
+abbrev pub is_flagged : List Bool → ℕ → Bool
+is_flagged marks i = slice_index_or marks i false
 
 -- a number that is too great isn't marked
 abbrev pub with_mark : ℕ → List Bool → List Bool
@@ -27,4 +27,4 @@ any_below test (suc n) = test n || any_below test n
 
 -- whether a term is marked and a constant that passes a test occurs in it
 abbrev pub reaches : List Lambda → (Constant → Bool) → List Bool → ℕ → Bool
-reaches terms test marks i = is_marked marks i && has_constant test (term_at terms i)
+reaches terms test marks i = is_flagged marks i && has_constant test (term_at terms i)

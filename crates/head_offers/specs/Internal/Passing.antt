@@ -18,9 +18,9 @@ abbrev pub any_passes : List Lambda → (Constant → Bool) → List ℕ → Boo
 any_passes terms test ids = list_any (λ id. head_passes test (term_at terms id)) ids
 
 -- the name that a head is, where it is one
-abbrev pub name_in : Lambda → Option ℕ
-name_in (constant (name k)) = Some k
-name_in t = None
+abbrev pub name_number : Lambda → Option ℕ
+name_number (constant (name k)) = Some k
+name_number t = None
 
 -- the type over which a head of the logic's own is one
 abbrev pub ranged_in : Lambda → Option SimpleType

@@ -16,12 +16,12 @@ abbrev pub with_last : PlainTrees SatLit → PlainTree SatLit → PlainTrees Sat
 with_last none t = more t none
 with_last (more s ts) t = more s (with_last ts t)
 
-abbrev pub joined : PlainTrees SatLit → PlainTrees SatLit → PlainTrees SatLit
-joined none us = us
-joined (more t ts) us = more t (joined ts us)
+abbrev pub trees_joined : PlainTrees SatLit → PlainTrees SatLit → PlainTrees SatLit
+trees_joined none us = us
+trees_joined (more t ts) us = more t (trees_joined ts us)
 
 abbrev pub trees_behind : PlainTrees SatLit → Expanded SatLit (PlainTrees SatLit) → Expanded SatLit (PlainTrees SatLit)
-trees_behind ts (found us) = found (joined ts us)
+trees_behind ts (found us) = found (trees_joined ts us)
 trees_behind ts (open_at b) = open_at b
 trees_behind ts over = over
 

@@ -12,9 +12,9 @@ chain [] k = []
 chain (c ∷ older) k = if nat_eq k (suc (length older)) then c.0 ∷ chain older c.1 else chain older k
 
 -- the list after each cell is older than the cell
-abbrev pub AreLinked : List Cell → Type 0
-AreLinked [] = Unit {0}
-AreLinked (c ∷ older) = (c.1 ≤ length older) × AreLinked older
+abbrev pub AreChained : List Cell → Type 0
+AreChained [] = Unit {0}
+AreChained (c ∷ older) = (c.1 ≤ length older) × AreChained older
 
 -- with further cells the lists that were there stay
 pub record ExtendsCells (old new : List Cell) : Type 0 where

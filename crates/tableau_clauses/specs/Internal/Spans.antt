@@ -22,8 +22,8 @@ abbrev pub AreSpans : List SatLit → List Span → Type 0
 AreSpans literals spans = All (λ span. span.start + span.len ≤ length literals) spans
 
 -- an instance with its principals and, behind these, its alternatives
-abbrev pub with_lists : PackedInstance → List (List SatLit) → Instance
-with_lists i lists = record {
+abbrev pub with_alternatives : PackedInstance → List (List SatLit) → Instance
+with_alternatives i lists = record {
   by = i.by;
   principals = get_or lists 0 [];
   alternatives = drop 1 lists;
@@ -31,7 +31,7 @@ with_lists i lists = record {
 
 -- the instance whose lists stand there
 abbrev pub unpacked_instance : List (List SatLit) → PackedInstance → Instance
-unpacked_instance lists i = with_lists i (piece_of lists i.start i.len)
+unpacked_instance lists i = with_alternatives i (piece_of lists i.start i.len)
 
 abbrev pub all_unpacked : List (List SatLit) → List PackedInstance → List Instance
 all_unpacked lists instances = map (unpacked_instance lists) instances

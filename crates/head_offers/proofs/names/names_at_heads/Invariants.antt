@@ -1,6 +1,6 @@
 use Rattle.std.proofs.Common.{◌≡◌, ◌<◌, ℕ, length, map, take}
 use Rattle.search_spec.specs.Offers.{is_name}
-use Rattle.head_offers.specs.Internal.Marks.{is_marked}
+use Rattle.head_offers.specs.Internal.Marks.{is_flagged}
 use Rattle.head_offers.specs.Internal.Passing.{any_passes}
 use Rattle.head_offers.proofs.names.names_at_heads.Given as goal
 
@@ -8,5 +8,5 @@ use Rattle.head_offers.proofs.names.names_at_heads.Given as goal
 abbrev pub invariant-loop-i : goal.invariant-loop-i
 invariant-loop-i l = record {
   length : length l.flags.items ≡ l.count;
-  flags : (k : ℕ) → k < l.count → is_marked l.flags.items k ≡ any_passes l.bank.terms (is_name k) (take l.i l.found);
+  flags : (k : ℕ) → k < l.count → is_flagged l.flags.items k ≡ any_passes l.bank.terms (is_name k) (take l.i l.found);
 }

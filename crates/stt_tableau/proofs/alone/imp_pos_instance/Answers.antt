@@ -1,7 +1,7 @@
 use Rattle.std.proofs.Common.{◌∙◌, ap}
 use Rattle.tableau_calculus.specs.Literals.{opposite}
 use Rattle.tableau_calculus.proofs.InstanceLaws.{imp_pos_is}
-use Rattle.stt_tableau.proofs.propositional.imp_pos_instance.Goals as goal
+use Rattle.stt_tableau.proofs.alone.imp_pos_instance.Goals as goal
 
 pub returns-in_ok-either-in-Imp : goal.returns-in_ok-either-in-Imp
 returns-in_ok-either-in-Imp c = λ scope rows.

@@ -2,7 +2,7 @@ use Rattle.std.proofs.Common.{sym, subst}
 use Rattle.stt_core.specs.ScopeView.{the_scope}
 use Rattle.tableau_calculus.specs.Checks.{FindsInstance}
 use Rattle.tableau_calculus.specs.declared.rule_use.RuleUse.TheVariants.{AtOne}
-use Rattle.stt_tableau.proofs.instance.at_one.Goals as goal
+use Rattle.stt_tableau.proofs.alone.at_one.Goals as goal
 
 pub returns-in-False : goal.returns-in-False
 returns-in-False c =

@@ -1,6 +1,6 @@
 use Rattle.tableau_calculus.specs.declared.rule_use.OnePlace.TheVariants.{False, Refl, ImpPos, ImpNeg, BoolPos, BoolNeg, FunPos, FunNeg, Dec}
 use Rattle.tableau_rules.proofs.UseLaws.{principal_now, one_by}
-use Rattle.tableau_rules.proofs.dispatch.at_one.Goals as goal
+use Rattle.tableau_rules.proofs.alone.at_one.Goals as goal
 
 pub returns-in-False-clause-drafted : goal.returns-in-False-clause-drafted
 returns-in-False-clause-drafted c = one_by c.args.bank.now c.args.lits.now c.args.rule c.args.lit c.principal_of-p.result False c.false_drafts.result c.in-False.is c.principal_of-p.ensures.is c.false_drafts.ensures

@@ -1,19 +1,23 @@
-//! Falsity, a literal and its negation, implications and the cut.
+//! The rules that take one principal; those of falsity and of implications stand here.
 
-ghost use Rattle.std.specs.Prelude.{[], ◌∷◌, List, Some, IfOk};
+ghost use Rattle.std.specs.Prelude.{◌≡◌, List, map, IfOk};
 ghost use Rattle.stt_core.specs.Typing.{Scope};
-ghost use Rattle.tableau_calculus.specs.Literals.{IsLiteral};
+ghost use Rattle.stt_core.specs.ScopeView.{the_scope};
+ghost use Rattle.tableau_calculus.specs.Literals.{IsBranch};
 ghost use Rattle.tableau_calculus.specs.Witnesses.{Row};
 ghost use Rattle.tableau_calculus.specs.Checks.{FindsInstance};
 ghost use Rattle.stt_tableau.specs.Internal.Instances.{HasShapeAt};
-ghost use Rattle.tableau_calculus.specs.declared.rule_use.RuleUse.TheVariants.{AtOne, AtTwo, Cut};
+ghost use Rattle.tableau_calculus.specs.declared.rule_use.RuleUse.TheVariants.{AtOne};
 ghost use Rattle.tableau_calculus.specs.declared.rule_use.OnePlace.TheVariants.{False, ImpPos, ImpNeg};
-ghost use Rattle.tableau_calculus.specs.declared.rule_use.TwoPlaces.TheVariants.{Close};
 
 use crate::alternatives::{Alternatives, both, either};
+use crate::decompose::dec_instance;
+use crate::equation::{bool_neg_instance, bool_pos_instance, refl_instance};
 use crate::formula::literal_of;
+use crate::quantifier::{all_neg_instance, fun_neg_instance, fun_pos_instance};
 use std::alloc::{AllocError, Global};
-use tableau_calculus::{Lit, Lits, Shape, shape_of};
+use stt_core::{Signature, Types};
+use tableau_calculus::{Lits, OnePlace, Rows, Shape, shape_of};
 
 /// The shape of the atom of the literal of this sign at a place; `Other` where none stands there.
 fn shape_at(branch: &Lits, i: usize, positive: bool) -> Shape<'_>
@@ -31,7 +35,7 @@ fn shape_at(branch: &Lits, i: usize, positive: bool) -> Shape<'_>
     }
 }
 
-pub fn false_instance(alloc: Global, branch: &Lits, i: usize) -> Option<Alternatives>
+fn false_instance(alloc: Global, branch: &Lits, i: usize) -> Option<Alternatives>
     ensures { (scope : Scope) (rows : List Row) → FindsInstance scope rows branch.now (AtOne False i) result }
 {
     match shape_at(branch, i, true) {
@@ -42,25 +46,7 @@ pub fn false_instance(alloc: Global, branch: &Lits, i: usize) -> Option<Alternat
     }
 }
 
-pub fn close_instance(alloc: Global, branch: &Lits, i: usize, j: usize) -> Option<Alternatives>
-    ensures { (scope : Scope) (rows : List Row) → FindsInstance scope rows branch.now (AtTwo Close i j) result }
-{
-    match branch.get(i) {
-        Some(lit) => match branch.get(j) {
-            Some(other) => {
-                if lit.is_opposite(other) {
-                    Some(Alternatives::new(alloc))
-                } else {
-                    None
-                }
-            }
-            None => None,
-        },
-        None => None,
-    }
-}
-
-pub fn imp_pos_instance(
+fn imp_pos_instance(
     alloc: Global,
     branch: &Lits,
     i: usize,
@@ -79,7 +65,7 @@ pub fn imp_pos_instance(
     }
 }
 
-pub fn imp_neg_instance(
+fn imp_neg_instance(
     alloc: Global,
     branch: &Lits,
     i: usize,
@@ -98,10 +84,30 @@ pub fn imp_neg_instance(
     }
 }
 
-pub fn cut_instance(alloc: Global, branch: &Lits, lit: &Lit) -> Result<Alternatives, AllocError>
-    ensures { IfOk result (λ a. (scope : Scope) (rows : List Row) → IsLiteral scope lit.now → FindsInstance scope rows branch.now (Cut lit.now) (Some a)) }
+/// The alternatives of a rule whose principal stands at its place in the branch, or none where it doesn't fit.
+pub fn at_one(
+    alloc: Global,
+    sig: &Signature,
+    types: &Types,
+    rows: &Rows,
+    branch: &Lits,
+    rule: OnePlace,
+    i: usize,
+) -> Result<Option<Alternatives>, AllocError>
+    requires types { types.now ≡ map (λ r. r.type) rows.now }
+    requires branch { IsBranch (the_scope sig.now types.now) branch.now }
+    ensures { IfOk result (FindsInstance (the_scope sig.now types.now) rows.now branch.now (AtOne rule i)) }
 {
-    let left = lit.try_clone(alloc)?;
-    let right = lit.try_clone(alloc)?.opposite();
-    Ok(either(alloc, left, right)?)
+    match rule {
+        OnePlace::False => Ok(false_instance(alloc, branch, i)),
+        OnePlace::Refl => Ok(refl_instance(alloc, branch, i)),
+        OnePlace::ImpPos => Ok(imp_pos_instance(alloc, branch, i)?),
+        OnePlace::ImpNeg => Ok(imp_neg_instance(alloc, branch, i)?),
+        OnePlace::BoolPos => Ok(bool_pos_instance(alloc, branch, i)?),
+        OnePlace::BoolNeg => Ok(bool_neg_instance(alloc, branch, i)?),
+        OnePlace::FunPos => Ok(fun_pos_instance(alloc, branch, i)?),
+        OnePlace::FunNeg => Ok(fun_neg_instance(alloc, branch, i)?),
+        OnePlace::AllNeg => Ok(all_neg_instance(alloc, rows, branch, i)?),
+        OnePlace::Dec => Ok(dec_instance(alloc, sig, types, branch, i)?),
+    }
 }

@@ -1,7 +1,7 @@
 use Rattle.std.proofs.Common.{◌∙◌, ap}
 use Rattle.tableau_calculus.specs.Literals.{opposite}
 use Rattle.tableau_calculus.proofs.InstanceLaws.{imp_neg_is}
-use Rattle.stt_tableau.proofs.propositional.imp_neg_instance.Goals as goal
+use Rattle.stt_tableau.proofs.alone.imp_neg_instance.Goals as goal
 
 pub returns-in_ok-both-in-Imp : goal.returns-in_ok-both-in-Imp
 returns-in_ok-both-in-Imp c = λ scope rows.

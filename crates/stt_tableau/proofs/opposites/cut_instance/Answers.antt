@@ -1,7 +1,7 @@
 use Rattle.std.proofs.Common.{◌∙◌, ap}
 use Rattle.tableau_calculus.specs.Literals.{opposite}
 use Rattle.tableau_calculus.proofs.InstanceLaws.{cut_is}
-use Rattle.stt_tableau.proofs.propositional.cut_instance.Goals as goal
+use Rattle.stt_tableau.proofs.opposites.cut_instance.Goals as goal
 
 pub returns : goal.returns
 returns c = λ scope rows typed.
