@@ -213,9 +213,12 @@ def bytes_(pick: random.Random) -> Input:
     return mutated(pick, lambda data: byte(pick, data))
 
 
-TEXT_TOKENS = b"""0 1 2 7 x [] w0 w1 $w0 #0 #1 + - False Close Refl Imp+ Imp- Bool+ Bool- Fun+ Fun- All+ All- Mat Dec Con Cho Des Cut $f
+# The names of rules, as docs/TEXTS.md has them.
+RULE_LINE = next(line for line in (TOP / "docs" / "TEXTS.md").read_bytes().splitlines() if line.startswith(b"| rule |"))
+RULES = re.findall(rb"`([A-Z][a-z]+[+-]?)\(", RULE_LINE)
+TEXT_TOKENS = b"""0 1 2 7 x [] w0 w1 $w0 #0 #1 + - %s $f
     $not $imp $all[$i] $eq[$i] $eq[$o] $eps[$i] $the[$i] ^$i. ($i>$o) $o $i ' 00 4294967295 4294967296
-    18446744073709551615 18446744073709551616 ( ) , ; :""".split() + [b"version 2", b"d p", b"\n", b" ", b"\r\n"]
+    18446744073709551615 18446744073709551616 ( ) , ; :""".replace(b"%s", b" ".join(RULES)).split() + [b"version 2", b"d p", b"\n", b" ", b"\r\n"]
 
 # What may stand in place of one another without a change of form: numbers, rules, signs, whole literals, terms of one head, types.
 ALIKE = [rb"\d+", rb"(?<=: )[A-Z][a-z]+[+-]?(?=\()", rb"(?<=[\[,])[+-]", rb"(?<=[\[,])[+-][^,\]]+", rb"\$w\d+|\b[a-z]\w*\b", rb"#\d+"]

@@ -1,29 +1,31 @@
 -- The rules of connectives by heads and arguments.
-use Rattle.std.proofs.Common.{◌≡◌, Bool, true, false, List, [], ◌∷◌, length, Option, Some, None, option_map, refl, sym, ap, ◌∙◌, subst, arith}
+use Rattle.std.proofs.Common.{◌≡◌, Bool, true, false, List, [], ◌∷◌, length, Option, Some, None, option_map, refl, arith}
 use Rattle.stt_core.specs.Lambda.{falsity, implication, Lambda, constant, app, applied}
 use Rattle.tableau_calculus.specs.Literals.{Literal}
 use Rattle.tableau_calculus.specs.Rules.{Alone, Alternatives}
 use Rattle.tableau_calculus.specs.declared.rule_use.OnePlace.{OnePlace}
 use Rattle.tableau_calculus.specs.declared.rule_use.OnePlace.TheVariants.{False, ImpPos, ImpNeg, AllNeg}
 use Rattle.tableau_calculus.proofs.AloneLaws.{AloneBy, alone_by}
-use Rattle.search_spec.specs.Processing.{connective_rule}
-use Rattle.search_spec.proofs.ConnectiveLaws.{connective_alone}
+use Rattle.search_spec.specs.Processing.{LiteralRule, connective_rule}
 use Rattle.tableau_rules.specs.Changes.{makes_witness}
 
--- the rule without its alternatives
-abbrev pub named : Option (OnePlace × Alternatives) → Option OnePlace
-named o = option_map (λ rule. rule.0) o
+-- the rule alone, without its alternatives
+abbrev pub named : {l : Literal} → Option (LiteralRule l) → Option OnePlace
+named o = option_map (λ rule. rule.kind) o
 
--- a rule that is named has alternatives
-pub unnamed : (kind : OnePlace) (o : Option (OnePlace × Alternatives)) → Some kind ≡ named o → (as' : Alternatives) × (o ≡ Some (kind, as'))
-unnamed kind None e = cc
-unnamed kind (Some rule) e =
-    let same : kind ≡ rule.0 = cc in
-    (rule.1, ap (λ k. Some (k, rule.1)) (sym same))
+-- a rule that is named, with its alternatives
+pub record IsNamed (l : Literal) (kind : OnePlace) (o : Option (LiteralRule l)) : Type 0 where
+  pub rule : LiteralRule l
+  pub is : o ≡ Some rule
+  pub kind_is : kind ≡ rule.kind
 
-pub unnamed_none : (o : Option (OnePlace × Alternatives)) → None ≡ named o → o ≡ None
-unnamed_none None e = refl
-unnamed_none (Some rule) e = cc
+pub rule_named : (l : Literal) (kind : OnePlace) (o : Option (LiteralRule l)) → Some kind ≡ named o → IsNamed l kind o
+rule_named l kind None e = cc
+rule_named l kind (Some rule) e = let same : kind ≡ rule.kind = cc in record { rule = rule; is = refl; kind_is = same }
+
+pub none_named : (l : Literal) (o : Option (LiteralRule l)) → None ≡ named o → o ≡ None
+none_named l None e = refl
+none_named l (Some rule) e = cc
 
 three_arguments : (sign : Bool) (s t u v : Lambda) (ts : List Lambda) → None ≡ named (connective_rule (applied (app (app (app s t) u) v) ts) sign)
 three_arguments sign s t u v [] = refl
@@ -67,19 +69,10 @@ implication-others sign (t ∷ []) n = refl
 implication-others sign (t ∷ u ∷ []) n = absurd (n refl)
 implication-others sign (t ∷ u ∷ v ∷ ts) n = three_arguments sign (constant implication) t u v ts
 
--- WHAT THE RULE IS
-
 -- a rule that looks at its principal alone makes no witness
-alone-makes_none : (kind : OnePlace) (l : Literal) (as' : Alternatives) → AloneBy kind l as' → makes_witness kind ≡ false
-alone-makes_none AllNeg l as' h = absurd h
-alone-makes_none kind l as' h = refl
+by-makes_none : (kind : OnePlace) (l : Literal) (as' : Alternatives) → AloneBy kind l as' → makes_witness kind ≡ false
+by-makes_none AllNeg l as' h = absurd h
+by-makes_none kind l as' h = refl
 
-module _ (l : Literal) (kind : OnePlace) (e : Some kind ≡ named (connective_rule l.atom l.positive)) where
-  -- the rule looks at the literal alone
-  pub connective-fits : (as' : Alternatives) × (connective_rule l.atom l.positive ≡ Some (kind, as')) × Alone kind l as'
-  connective-fits =
-      let u = unnamed kind (connective_rule l.atom l.positive) e in
-      (u.0, u.1, connective_alone l.atom l.positive (kind, u.0) u.1)
-
-  pub connective-unwitnessed : makes_witness kind ≡ false
-  connective-unwitnessed = let f = connective-fits in alone-makes_none kind l f.0 (alone_by kind l f.0 f.2)
+pub alone-makes_none : (kind : OnePlace) (l : Literal) (as' : Alternatives) → Alone kind l as' → makes_witness kind ≡ false
+alone-makes_none kind l as' h = by-makes_none kind l as' (alone_by kind l as' h)

@@ -19,7 +19,6 @@ use Rattle.command_queue.specs.declared.entry.Entry.{Entry}
 use Rattle.command_queue.specs.Queue.{comes_before}
 use Rattle.search_spec.specs.Queue.{new_entries, first_waiting, next_command}
 use Rattle.search_spec.specs.State.{State, Setting, Sketch, Command, process, mate, confront, inst, choose, describe, grow, delay, due, with_commands, scope_in}
-use Rattle.tableau_calculus.specs.declared.rule_use.OnePlace.{OnePlace}
 use Rattle.tableau_calculus.specs.Rules.{Alternatives, bool_pos, bool_neg, fun_pos, fun_neg, all_pos, all_neg, differ, con, cho, des}
 use Rattle.search_spec.specs.Instances.{with_literal, with_literals, with_instance}
 use Rattle.search_spec.specs.Terms.{terms_of, universals, with_term, with_terms, with_opening, first_terms}
@@ -28,7 +27,7 @@ use Rattle.search_spec.specs.Preparing.{with_beginning, with_preparation}
 use Rattle.search_spec.specs.Partners.{matings, confrontations}
 use Rattle.search_spec.specs.Selections.{Selection, by_choice, by_description, selections_in, with_selection, with_selections}
 use Rattle.search_spec.specs.Witness.{same_row, witness_of, has_hole_of, with_new_witness, with_witness, with_denied}
-use Rattle.search_spec.specs.Processing.{with_decomposition, with_confrontations, with_equation, with_universal, with_matings, connective_rule, with_connective, with_rules, with_processing}
+use Rattle.search_spec.specs.Processing.{with_decomposition, with_confrontations, with_equation, with_universal, with_matings, LiteralRule, connective_rule, with_connective, with_rules, with_processing}
 use Rattle.search_spec.specs.Commands.{with_confrontation, with_instantiation, with_growth, growth_by, with_command}
 use Rattle.search_spec.specs.After.{nothing_yet, starting_state, with_taken, after_command, next_state, state_after}
 use Rattle.search_spec.proofs.NamingLaws.{each-joined, pick_good}
@@ -151,8 +150,8 @@ module _ (setting : Setting) (short : AreShort setting) (n : ℕ) where
       let k = witnessed-paced a f s g in
       pick_good Good (list_any (same_row r) s.rows) done (with_terms setting.mode a us done) k (with_terms-paced a us done k)
 
-  connected-paced : (l : Literal) (o : Option (OnePlace × Alternatives)) (s : State) → Good s → Good (with_connective setting l o s)
-  connected-paced l (Some rule) s g = with_instance-paced (l ∷ []) rule.1 s g
+  connected-paced : (l : Literal) (o : Option (LiteralRule l)) (s : State) → Good s → Good (with_connective l setting o s)
+  connected-paced l (Some rule) s g = with_instance-paced (l ∷ []) rule.alternatives s g
   connected-paced l None s g = mated-paced l s g
 
   worked-paced : (sign : Bool) (t : Lambda) (s : State) → Good s → Good (with_rules setting sign t s)

@@ -25,7 +25,7 @@ use Rattle.prover_search.proofs.RuleUses.{head_of-applied}
 
 -- for a literal with this atom is done what its connective asks for
 abbrev pub IsConnected : Lambda → Type 0
-IsConnected t = (setting : Setting) (st : State) → (with_rules setting true t st ≡ with_connective setting (plus t) (connective_rule t true) st) × (with_rules setting false t st ≡ with_connective setting (minus t) (connective_rule t false) st)
+IsConnected t = (setting : Setting) (st : State) → (with_rules setting true t st ≡ with_connective (plus t) setting (connective_rule t true) st) × (with_rules setting false t st ≡ with_connective (minus t) setting (connective_rule t false) st)
 
 abbrev pub IsShaped : Lambda → Shape → Type 0
 IsShaped t FormulaEquation = (s : Lambda) × (u : Lambda) × (t ≡ eq formula s u)

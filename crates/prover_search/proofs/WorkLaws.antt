@@ -79,11 +79,11 @@ module _ (setting : Setting) (st : State) where
   mated-is l e = sym (ap (λ (b : Bool). if b then with_commands setting.mode (matings l st.noted) st else st) e)
 
   -- for a literal of another shape is done what its connective asks for
-  pub worked-other : (l : Literal) → IsConnected l.atom → with_connective setting l (connective_rule l.atom l.positive) st ≡ with_rules setting l.positive l.atom st
+  pub worked-other : (l : Literal) → IsConnected l.atom → with_connective l setting (connective_rule l.atom l.positive) st ≡ with_rules setting l.positive l.atom st
   worked-other l h = by_sign l.positive l.atom (h setting st)
     where
-      by_sign : (b : Bool) (t : Lambda) → (with_rules setting true t st ≡ with_connective setting (plus t) (connective_rule t true) st) × (with_rules setting false t st ≡ with_connective setting (minus t) (connective_rule t false) st)
-          → with_connective setting (record { positive = b; atom = t }) (connective_rule t b) st ≡ with_rules setting b t st
+      by_sign : (b : Bool) (t : Lambda) → (with_rules setting true t st ≡ with_connective (plus t) setting (connective_rule t true) st) × (with_rules setting false t st ≡ with_connective (minus t) setting (connective_rule t false) st)
+          → with_connective (record { positive = b; atom = t }) setting (connective_rule t b) st ≡ with_rules setting b t st
       by_sign true t k = sym k.0
       by_sign false t k = sym k.1
 

@@ -16,7 +16,7 @@ use term_bank::Node;
 
 /// The rule for a literal of this sign whose atom has this head and so many arguments.
 fn rule_by_head(head: &Head, count: usize, positive: bool) -> Option<OnePlace>
-    ensures { (ts : List Lambda) → length ts ≡ count → result ≡ option_map (λ rule. rule.0) (connective_rule (applied (the_head head.now) ts) positive) }
+    ensures { (ts : List Lambda) → length ts ≡ count → result ≡ option_map (λ rule. rule.kind) (connective_rule (applied (the_head head.now) ts) positive) }
 {
     match head {
         Head::Bound(_) => None,
@@ -54,7 +54,7 @@ fn rule_by_head(head: &Head, count: usize, positive: bool) -> Option<OnePlace>
 pub(crate) fn connective_rule(basis: &Basis, lit: SatLit) -> Option<OnePlace>
     requires basis { IsBasis basis.now }
     requires number { IsNumberIn basis.now.lits lit }
-    ensures { result ≡ option_map (λ rule. rule.0) (connective_rule (the_atom basis.now lit) lit.positive) }
+    ensures { result ≡ option_map (λ rule. rule.kind) (connective_rule (the_atom basis.now lit) lit.positive) }
 {
     match basis.bank.node(atom_of(basis, lit)) {
         Node::App { head, args } => rule_by_head(head, args.len(), lit.positive),

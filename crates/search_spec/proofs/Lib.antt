@@ -3,7 +3,6 @@ pub mod NamingLaws
 pub mod Rows
 pub mod UnsatLaws
 pub mod LoopLaws
-pub mod ConnectiveLaws
 pub mod TypedAlternatives
 pub mod PartialLaws
 pub mod TypedPushes

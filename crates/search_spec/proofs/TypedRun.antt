@@ -12,9 +12,8 @@ use Rattle.stt_core.proofs.ListLaws.{mapped_get, slice_get-end}
 use Rattle.stt_core.proofs.TypeLaws.{constant_declared}
 use Rattle.tableau_calculus.specs.Literals.{Literal, plus, minus, IsLiteral, IsBranch}
 use Rattle.tableau_calculus.specs.Witnesses.{Row, with_rows, IsTable}
-use Rattle.tableau_calculus.specs.Rules.{Alternatives, all_neg_rule, all_neg}
+use Rattle.tableau_calculus.specs.Rules.{all_neg_rule, all_neg}
 use Rattle.tableau_calculus.specs.declared.rule_use.RuleUse.TheVariants.{AtOne}
-use Rattle.tableau_calculus.specs.declared.rule_use.OnePlace.{OnePlace}
 use Rattle.tableau_calculus.specs.declared.rule_use.OnePlace.TheVariants.{AllNeg}
 use Rattle.tableau_calculus.proofs.AloneLaws.{alone_typed}
 use Rattle.tableau_calculus.proofs.FunctionLaws.{every_canonical}
@@ -26,10 +25,9 @@ use Rattle.search_spec.specs.Terms.{with_terms}
 use Rattle.search_spec.specs.Offers.{takes_witness, offered_witness}
 use Rattle.search_spec.specs.Selections.{selections_in, with_selections}
 use Rattle.search_spec.specs.Witness.{same_row, witness_of, is_hole_of, has_hole_of, with_new_witness, with_denied}
-use Rattle.search_spec.specs.Processing.{with_equation, connective_rule, with_connective, with_rules, with_processing}
+use Rattle.search_spec.specs.Processing.{with_equation, LiteralRule, connective_rule, with_connective, with_rules, with_processing}
 use Rattle.search_spec.specs.TypedState.{GrowsSketch, IsTypedSketch, IsTypedCommand, IsTypedStateWith, IsTypedState}
 use Rattle.search_spec.proofs.NamingLaws.{pick_good}
-use Rattle.search_spec.proofs.ConnectiveLaws.{connective_alone}
 use Rattle.search_spec.proofs.TypedAlternatives.{alternatives_typed}
 use Rattle.search_spec.proofs.TypedPushes.{each_mapped, each_filtered, pushed-typed, with_instance-typed, with_terms-typed}
 use Rattle.search_spec.proofs.TypedOpening.{witness-typed}
@@ -123,11 +121,10 @@ module _ (setting : Setting) (over : IsScope setting.scope) where
         by_test true e = same_rows s state (minus (every a f)) (added s) h (known_witness s state a f h e)
         by_test false e = new_witness a f h e
 
-  connected-typed : (sign : Bool) (t : Lambda) (s : State) (state : IsTypedState setting s) (h : IsLiteral (scope_in setting s) (record { positive = sign; atom = t })) (o : Option (OnePlace × Alternatives)) → connective_rule t sign ≡ o → Worked setting (record { positive = sign; atom = t }) (with_connective setting (record { positive = sign; atom = t }) o s)
-  connected-typed sign t s state h None e = same_rows s state (record { positive = sign; atom = t }) _ h (mated-typed setting s.rows (good s state) (record { positive = sign; atom = t }) s h state.typed)
-  connected-typed sign t s state h (Some rule) e =
-      let l : Literal = record { positive = sign; atom = t } in
-      same_rows s state l _ h (with_instance-typed setting s.rows (l ∷ []) rule.1 s (alone_typed (scope_in setting s) rule.0 l rule.1 (connective_alone t sign rule e) h) state.typed)
+  connected-typed : (l : Literal) (s : State) (state : IsTypedState setting s) → IsLiteral (scope_in setting s) l → (o : Option (LiteralRule l)) → Worked setting l (with_connective l setting o s)
+  connected-typed l s state h None = same_rows s state l _ h (mated-typed setting s.rows (good s state) l s h state.typed)
+  connected-typed l s state h (Some rule) =
+      same_rows s state l _ h (with_instance-typed setting s.rows (l ∷ []) rule.alternatives s (alone_typed (scope_in setting s) rule.kind l rule.alternatives rule.fits h) state.typed)
 
   worked-typed : (sign : Bool) (t : Lambda) (s : State) → IsTypedState setting s → IsLiteral (scope_in setting s) (record { positive = sign; atom = t }) → Worked setting (record { positive = sign; atom = t }) (with_rules setting sign t s)
   worked-typed true (app (app (constant (equality a)) u) v) s state h = same_rows s state (plus (eq a u v)) _ h (equated-typed setting s.rows (good s state) a true u v s h state.typed)
@@ -138,7 +135,7 @@ module _ (setting : Setting) (over : IsScope setting.scope) where
       (equated-typed setting s.rows (good s state) a false u v s h state.typed))
   worked-typed true (app (constant (all a)) f) s state h = same_rows s state (plus (every a f)) _ h (quantified-typed setting s.rows (good s state) a f s h state.typed)
   worked-typed false (app (constant (all a)) f) s state h = denied-typed s state a f h
-  worked-typed sign t s state h = connected-typed sign t s state h (connective_rule t sign) refl
+  worked-typed sign t s state h = connected-typed (record { positive = sign; atom = t }) s state h (connective_rule t sign)
 
   branch_last : (scope : Scope) (ls : List Literal) (l : Literal) → IsBranch scope ls → IsLiteral scope l → IsBranch scope (ls ++ l ∷ [])
   branch_last scope [] l h k = (k, tt)

@@ -9,7 +9,7 @@ use Rattle.search_spec.specs.Spine.{head_of, arguments, is_spine, same_head}
 use Rattle.search_spec.specs.State.{State, Setting, inst, with_commands, scope_in}
 use Rattle.tableau_calculus.specs.declared.rule_use.OnePlace.{OnePlace}
 use Rattle.tableau_calculus.specs.declared.rule_use.OnePlace.TheVariants.{False, ImpPos, ImpNeg}
-use Rattle.tableau_calculus.specs.Rules.{Alternatives, imp_pos, imp_neg, bool_pos, bool_neg, fun_pos, fun_neg, differ}
+use Rattle.tableau_calculus.specs.Rules.{Alone, false_alone, imp_pos_alone, imp_neg_alone, Alternatives, imp_pos, imp_neg, bool_pos, bool_neg, fun_pos, fun_neg, differ}
 use Rattle.search_spec.specs.Instances.{with_instance}
 use Rattle.search_spec.specs.Terms.{terms_of, with_term, with_terms}
 use Rattle.search_spec.specs.Offers.{offered_sides}
@@ -52,17 +52,23 @@ with_universal setting a f state = instances (with_preparation setting a state)
 abbrev pub with_matings : Setting → Literal → State → State
 with_matings setting l state = if is_spine l.atom then with_commands setting.mode (matings l state.noted) state else state
 
--- the rule that a literal of this sign has by the connective of its atom, with its alternatives
-abbrev pub connective_rule : Lambda → Bool → Option (OnePlace × Alternatives)
-connective_rule (constant falsity) true = Some (False, [])
-connective_rule (app (app (constant implication) s) t) true = Some (ImpPos, imp_pos s t)
-connective_rule (app (app (constant implication) s) t) false = Some (ImpNeg, imp_neg s t)
+-- a rule of which the literal alone is a principal, with its alternatives
+pub record LiteralRule (l : Literal) : Type 0 where
+  pub kind : OnePlace
+  pub alternatives : Alternatives
+  pub fits : Alone kind l alternatives
+
+-- the rule that a literal of this sign has by the connective of its atom
+abbrev pub connective_rule : (t : Lambda) (sign : Bool) → Option (LiteralRule (record { positive = sign; atom = t }))
+connective_rule (constant falsity) true = Some (record { kind = False; alternatives = []; fits = false_alone })
+connective_rule (app (app (constant implication) s) t) true = Some (record { kind = ImpPos; alternatives = imp_pos s t; fits = imp_pos_alone s t })
+connective_rule (app (app (constant implication) s) t) false = Some (record { kind = ImpNeg; alternatives = imp_neg s t; fits = imp_neg_alone s t })
 connective_rule t sign = None
 
 -- the instance of the literal's rule, or its matings where it has none
-abbrev pub with_connective : Setting → Literal → Option (OnePlace × Alternatives) → State → State
-with_connective setting l (Some rule) state = with_instance setting.mode (l ∷ []) rule.1 state
-with_connective setting l None state = with_matings setting l state
+abbrev pub with_connective : (l : Literal) → Setting → Option (LiteralRule l) → State → State
+with_connective l setting (Some rule) state = with_instance setting.mode (l ∷ []) rule.alternatives state
+with_connective l setting None state = with_matings setting l state
 
 -- what is done for a literal of this sign and atom
 abbrev pub with_rules : Setting → Bool → Lambda → State → State
@@ -71,7 +77,7 @@ with_rules setting false (app (app (constant (equality a)) s) t) state =
     if same_term s t then with_instance setting.mode (minus (eq a s t) ∷ []) [] state else with_equation setting a false s t state
 with_rules setting true (app (constant (all a)) f) state = with_universal setting a f state
 with_rules setting false (app (constant (all a)) f) state = with_denied setting a f state
-with_rules setting sign t state = with_connective setting (record { positive = sign; atom = t }) (connective_rule t sign) state
+with_rules setting sign t state = with_connective (record { positive = sign; atom = t }) setting (connective_rule t sign) state
 
 -- The literal is processed: what its shape asks for is done, it is noted, and the choices and descriptions in its atom are taken up.
 abbrev pub with_processing : Setting → Literal → State → State

@@ -22,7 +22,6 @@ use Rattle.search_spec.specs.Closed.{is_closed}
 use Rattle.search_spec.specs.State.{State, Setting, Typed, Sketch, Command, process, mate, confront, inst, choose, describe, grow, due, with_commands, scope_in}
 use Rattle.search_spec.specs.Spine.{head_of, arguments, is_spine, same_head}
 use Rattle.tableau_calculus.specs.Rules.{Alternatives, bool_pos, bool_neg, fun_pos, fun_neg, all_pos, all_neg, differ, con, cho, des}
-use Rattle.tableau_calculus.specs.declared.rule_use.OnePlace.{OnePlace}
 use Rattle.search_spec.specs.Instances.{with_literal, with_literals, with_instance}
 use Rattle.search_spec.specs.Terms.{terms_of, ranges_over, universals, with_term, with_terms, first_terms, with_opening}
 use Rattle.search_spec.specs.Offers.{is_prepared, early_terms, offered_witness, offered_sides, offered_heads}
@@ -30,7 +29,7 @@ use Rattle.search_spec.specs.Preparing.{with_beginning, with_preparation}
 use Rattle.search_spec.specs.Partners.{partners, positive_first, matings, confrontations}
 use Rattle.search_spec.specs.Selections.{Selection, by_choice, by_description, selection_by, selections_in, with_selection, with_selections}
 use Rattle.search_spec.specs.Witness.{same_row, witness_of, has_hole_of, with_new_witness, with_witness, with_denied}
-use Rattle.search_spec.specs.Processing.{with_decomposition, with_confrontations, with_equation, with_universal, with_matings, connective_rule, with_connective, with_rules, with_processing}
+use Rattle.search_spec.specs.Processing.{with_decomposition, with_confrontations, with_equation, with_universal, with_matings, LiteralRule, connective_rule, with_connective, with_rules, with_processing}
 use Rattle.search_spec.specs.Commands.{with_confrontation, with_instantiation, with_growth, growth_by, with_command}
 use Rattle.search_spec.specs.After.{nothing_yet, starting_state, with_taken, after_command, next_state, state_after}
 use Rattle.search_spec.proofs.NamingLaws.{StandFor, each-joined, pick_good, instance_clauses_good, with_clauses_good}
@@ -254,8 +253,8 @@ module _ (setting : Setting) where
       let k = witnessed-flat a f s h g in
       pick_good Is (list_any (same_row r) s.rows) done (with_terms setting.mode a us done) k (with_terms-flat a us done k)
 
-  connected-flat : (l : Literal) (o : Option (OnePlace × Alternatives)) (s : State) → IsFlat l → Is s → Is (with_connective setting l o s)
-  connected-flat l (Some rule) s h g = with_instance-flat (l ∷ []) rule.1 s (h, tt) g
+  connected-flat : (l : Literal) (o : Option (LiteralRule l)) (s : State) → IsFlat l → Is s → Is (with_connective l setting o s)
+  connected-flat l (Some rule) s h g = with_instance-flat (l ∷ []) rule.alternatives s (h, tt) g
   connected-flat l None s h g = mated-flat l s h g
 
   worked-flat : (sign : Bool) (t : Lambda) (s : State) → depth t ≤ 4096 → Is s → Is (with_rules setting sign t s)

@@ -16,8 +16,7 @@ use Rattle.command_queue.specs.declared.entry.Entry.{Entry}
 use Rattle.command_queue.specs.Queue.{comes_before}
 use Rattle.search_spec.specs.State.{State, Setting, Sketch, Command, process, mate, confront, inst, choose, describe, grow, with_commands, scope_in}
 use Rattle.search_spec.specs.Spine.{head_of, arguments, is_spine, same_head}
-use Rattle.tableau_calculus.specs.declared.rule_use.OnePlace.{OnePlace}
-use Rattle.tableau_calculus.specs.Rules.{Alternatives, bool_pos, bool_neg, fun_pos, fun_neg, all_pos, all_neg, differ, con, cho, des}
+use Rattle.tableau_calculus.specs.Rules.{bool_pos, bool_neg, fun_pos, fun_neg, all_pos, all_neg, differ, con, cho, des}
 use Rattle.search_spec.specs.Instances.{with_instance}
 use Rattle.search_spec.specs.Terms.{terms_of, with_term, with_terms}
 use Rattle.search_spec.specs.Offers.{offers_terms, takes_witness, offered_witness, offered_sides, offered_heads}
@@ -25,10 +24,9 @@ use Rattle.search_spec.specs.Preparing.{with_preparation}
 use Rattle.search_spec.specs.Partners.{matings, confrontations}
 use Rattle.search_spec.specs.Selections.{selections_in}
 use Rattle.search_spec.specs.Witness.{same_row, witness_of, has_hole_of, with_new_witness, with_witness, with_denied}
-use Rattle.search_spec.specs.Processing.{with_decomposition, with_confrontations, with_equation, with_universal, with_matings, connective_rule, with_connective, with_rules, with_processing}
+use Rattle.search_spec.specs.Processing.{with_decomposition, with_confrontations, with_equation, with_universal, with_matings, LiteralRule, connective_rule, with_connective, with_rules, with_processing}
 use Rattle.search_spec.specs.Commands.{with_mating, with_confrontation, with_instantiation, with_command}
 use Rattle.search_spec.specs.After.{nothing_yet, starting_state, with_taken, after_command, next_state, state_after}
-use Rattle.search_spec.proofs.ConnectiveLaws.{connective_alone}
 use Rattle.search_spec.proofs.NamingLaws.{each-joined, pick_good}
 use Rattle.search_spec.proofs.TypedPushes.{each_filtered, each_mapped}
 use Rattle.refute_print.specs.Sizes.{nesting}
@@ -135,11 +133,10 @@ module _ (limit : ℕ) (setting : Setting) (good : IsModestSetting limit setting
       (with_terms-modest limit setting a (offered_witness setting.mode a (witness_of s.rows r) done) done
       (pick_good (Each (IsModest limit)) (takes_witness setting.mode a done) (u ∷ []) [] (witness-modest limit setting good a (position_or_len (same_row r) s.rows) w, tt) tt) k)
 
-  connected-modest : (sign : Bool) (t : Lambda) (s : State) → IsModest limit t → Is s → (o : Option (OnePlace × Alternatives)) → connective_rule t sign ≡ o → Is (with_connective setting (record { positive = sign; atom = t }) o s)
-  connected-modest sign t s h g None e = mated-modest (record { positive = sign; atom = t }) s h g
-  connected-modest sign t s h g (Some rule) e =
-      let l : Literal = record { positive = sign; atom = t } in
-      with_instance-modest limit setting (l ∷ []) rule.1 s (h, tt) (alone_keeps limit rule.0 l rule.1 (connective_alone t sign rule e) h) g
+  connected-modest : (l : Literal) (s : State) → Lit l → Is s → (o : Option (LiteralRule l)) → Is (with_connective l setting o s)
+  connected-modest l s h g None = mated-modest l s h g
+  connected-modest l s h g (Some rule) =
+      with_instance-modest limit setting (l ∷ []) rule.alternatives s (h, tt) (alone_keeps limit rule.kind l rule.alternatives rule.fits h) g
 
   worked-modest : (sign : Bool) (t : Lambda) (s : State) → IsModest limit t → Is s → Is (with_rules setting sign t s)
   worked-modest true (app (app (constant (equality a)) u) v) s h g = equated-modest a true u v s h.0.0 h.0.1 h.1 g
@@ -148,7 +145,7 @@ module _ (limit : ℕ) (setting : Setting) (good : IsModestSetting limit setting
       (with_instance-modest limit setting (minus (eq a u v) ∷ []) [] s (h, tt) tt g) (equated-modest a false u v s h.0.0 h.0.1 h.1 g)
   worked-modest true (app (constant (all a)) f) s h g = quantified-modest a f s h.0 h.1 g
   worked-modest false (app (constant (all a)) f) s h g = denied-modest a f s h.0 h.1 g
-  worked-modest sign t s h g = connected-modest sign t s h g (connective_rule t sign) refl
+  worked-modest sign t s h g = connected-modest (record { positive = sign; atom = t }) s h g (connective_rule t sign)
 
   processed-modest : (l : Literal) (s : State) → Lit l → Is s → Is (with_processing setting l s)
   processed-modest l s h g =
