@@ -15,9 +15,9 @@ pub struct OneFile {
 
 impl OneFile {
     pub fn new(bytes: Bytes) -> Self
-        ensures told { IsTrue (⟦<OneFile as Files>⟧.tells result) }
+        ensures told { IsTrue (⟦<OneFile as Files>⟧.seen result).tells }
         ensures contents { (name : List ℕ)
-            → ⟦<OneFile as Files>⟧.contents result name ≡ Some bytes }
+            → (⟦<OneFile as Files>⟧.seen result).contents name ≡ Some bytes }
         ensures faults { (name : List ℕ) → ⟦<OneFile as Files>⟧.faults result name ≡ 0 }
     {
         OneFile {
@@ -28,9 +28,7 @@ impl OneFile {
 }
 
 impl Files for OneFile {
-    ghost tells = { λ f. true };
-
-    ghost contents = { λ f name. Some f.bytes };
+    ghost seen = { λ f. record { tells = true; contents = λ name. Some f.bytes } };
 
     ghost has_current = { λ f. is_some f.position };
 

@@ -30,19 +30,18 @@ pub fn read_whole<F: Files>(
     name: &str,
     limit: usize,
 ) -> Result<Bytes, ReadRefused>
-    ensures whole { IfOk result (λ bytes. IsTrue (F.tells files.old)
-        → F.contents files.old name.now ≡ Some bytes) }
+    ensures whole { IfOk result (λ bytes. IsTrue (F.seen files.old).tells
+        → (F.seen files.old).contents name.now ≡ Some bytes) }
     ensures short { IfOk result (λ bytes. length bytes ≤ limit) }
     ensures fault { IsErrOf result ReadRefused.Fault
         → Rose (F.faults files.old name.now) (F.faults files.new name.now) }
-    ensures long { IsErrOf result ReadRefused.TooLong → IsTrue (F.tells files.old)
-        → (bytes : List ℕ) × (F.contents files.old name.now ≡ Some bytes) × (limit < length bytes) }
+    ensures long { IsErrOf result ReadRefused.TooLong → IsTrue (F.seen files.old).tells
+        → (bytes : List ℕ) × ((F.seen files.old).contents name.now ≡ Some bytes) × (limit < length bytes) }
     ensures quiet { (IsErrOf result ReadRefused.Fault → ⊥)
         → (other : List ℕ) → F.faults files.new other ≡ F.faults files.old other }
 
     ensures later { (other : List ℕ) → F.faults files.old other ≤ F.faults files.new other }
-    ensures same { F.contents files.new ≡ F.contents files.old }
-    ensures telling { F.tells files.new ≡ F.tells files.old }
+    ensures same { F.seen files.new ≡ F.seen files.old }
 {
     let mut bytes = Bytes::new(alloc);
     if files.open_file(name).is_err() {

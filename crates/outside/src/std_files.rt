@@ -32,9 +32,7 @@ impl<R: rt::Files> StdFiles<R> {
 impl<R: rt::Files> Files for StdFiles<R> {
     ghost use Rattle.outside.specs.StdFiles.{is_reading, fault_count, known_left};
 
-    ghost tells = { λ f. false };
-
-    ghost contents = { λ f name. None };
+    ghost seen = { λ f. record { tells = false; contents = λ name. None } };
 
     ghost has_current = { λ f. is_reading f };
 

@@ -1,5 +1,6 @@
 -- What is answered by files.
-use Rattle.std.proofs.Common.{ℕ, Bool, List, Option, Err, refl, sym, subst}
+use Rattle.std.proofs.Common.{ℕ, List, Err, refl, sym, subst}
+use Rattle.outside.specs.Seen.{Seen}
 use Rattle.stt_core.specs.PlainProblem.{PlainProblem}
 use Rattle.thf_include.specs.View.{PlacedTree}
 use Rattle.thf_include.specs.Answer.{Gathers}
@@ -14,18 +15,18 @@ use Rattle.request_answers.specs.Internal.RefusedFiles.{refused_answer}
 use Rattle.request_answers.specs.Internal.Unread.{IsIllAt, IsUnstated, IsUnread, IsFilesAnswer}
 
 -- what is answered where the files aren't gathered
-pub refusal_unread : (told : Bool) (contents : List ℕ → Option (List ℕ)) (name : List ℕ) (names : List (List ℕ)) (refused : GatherRefused) → Gathers told contents name names (Err refused) → IsUnread name told contents (refused_answer names refused)
-refusal_unread told contents name names (Fault file) h = (names, record { texts = h.texts; told_texts = h.told; ending = stopped (wants file); gathers = h.answered.0; holds = refl })
-refusal_unread told contents name names (TooLong file) h = (names, record { texts = h.texts; told_texts = h.told; ending = stopped (too_long file); gathers = h.answered; holds = refl })
-refusal_unread told contents name names (Syntax file at) h = (names, record { texts = h.texts; told_texts = h.told; ending = stopped (no_tree file at); gathers = h.answered; holds = refl })
-refusal_unread told contents name names (Cycle file at) h = (names, record { texts = h.texts; told_texts = h.told; ending = stopped (cycle file at); gathers = h.answered; holds = refl })
-refusal_unread told contents name names (NoSuchName file at) h = (names, record { texts = h.texts; told_texts = h.told; ending = stopped (no_name file at); gathers = h.answered; holds = refl })
-refusal_unread told contents name names (TooMany file at) h = (names, record { texts = h.texts; told_texts = h.told; ending = stopped (too_many file at); gathers = h.answered; holds = refl })
-refusal_unread told contents name names Memory h = tt
+pub refusal_unread : (seen : Seen) (name : List ℕ) (names : List (List ℕ)) (refused : GatherRefused) → Gathers seen name names (Err refused) → IsUnread name seen (refused_answer names refused)
+refusal_unread seen name names (Fault file) h = (names, record { texts = h.texts; told_texts = h.told; ending = stopped (wants file); gathers = h.answered.0; holds = refl })
+refusal_unread seen name names (TooLong file) h = (names, record { texts = h.texts; told_texts = h.told; ending = stopped (too_long file); gathers = h.answered; holds = refl })
+refusal_unread seen name names (Syntax file at) h = (names, record { texts = h.texts; told_texts = h.told; ending = stopped (no_tree file at); gathers = h.answered; holds = refl })
+refusal_unread seen name names (Cycle file at) h = (names, record { texts = h.texts; told_texts = h.told; ending = stopped (cycle file at); gathers = h.answered; holds = refl })
+refusal_unread seen name names (NoSuchName file at) h = (names, record { texts = h.texts; told_texts = h.told; ending = stopped (no_name file at); gathers = h.answered; holds = refl })
+refusal_unread seen name names (TooMany file at) h = (names, record { texts = h.texts; told_texts = h.told; ending = stopped (too_many file at); gathers = h.answered; holds = refl })
+refusal_unread seen name names Memory h = tt
 
 -- an ending with another property
-pub of_files : (name : List ℕ) (told : Bool) (contents : List ℕ → Option (List ℕ)) (names : List (List ℕ)) (P Q : Ending → Type 0) → ((e : Ending) → P e → Q e) → OfFiles name told contents names P → OfFiles name told contents names Q
-of_files name told contents names P Q f h = record { texts = h.texts; told_texts = h.told_texts; ending = h.ending; gathers = h.gathers; holds = f h.ending h.holds }
+pub of_files : (name : List ℕ) (seen : Seen) (names : List (List ℕ)) (P Q : Ending → Type 0) → ((e : Ending) → P e → Q e) → OfFiles name seen names P → OfFiles name seen names Q
+of_files name seen names P Q f h = record { texts = h.texts; told_texts = h.told_texts; ending = h.ending; gathers = h.gathers; holds = f h.ending h.holds }
 
 module _ (Answers : PlainProblem → Answer → Type 0) (names : List (List ℕ)) (a : Answer) where
   ill_answered : (ss : List PlacedTree) → IsIllAt names ss a → AnswersEnding Answers names a (done ss)
@@ -39,11 +40,11 @@ module _ (Answers : PlainProblem → Answer → Type 0) (names : List (List ℕ)
   stated_answered p h e s = subst (AnswersEnding Answers names a) (sym s.gathered) (subst (AnswersStated Answers names a) (sym s.read) h)
 
 -- files that state no problem
-pub unread_answers : (Answers : PlainProblem → Answer → Type 0) (name : List ℕ) (told : Bool) (contents : List ℕ → Option (List ℕ)) (a : Answer) → IsUnread name told contents a → IsFilesAnswer Answers name told contents a
-unread_answers Answers name told contents answer.Memory h = tt
-unread_answers Answers name told contents a h = (h.0, of_files name told contents h.0 _ _ (unstated_answered Answers h.0 a) h.1)
+pub unread_answers : (Answers : PlainProblem → Answer → Type 0) (name : List ℕ) (seen : Seen) (a : Answer) → IsUnread name seen a → IsFilesAnswer Answers name seen a
+unread_answers Answers name seen answer.Memory h = tt
+unread_answers Answers name seen a h = (h.0, of_files name seen h.0 _ _ (unstated_answered Answers h.0 a) h.1)
 
 -- files that state a problem
-pub stated_answers : (Answers : PlainProblem → Answer → Type 0) (name : List ℕ) (told : Bool) (contents : List ℕ → Option (List ℕ)) (p : PlainProblem) (a : Answer) → (names : List (List ℕ)) → OfFiles name told contents names (Statements p) → Answers p a → IsFilesAnswer Answers name told contents a
-stated_answers Answers name told contents p answer.Memory names s h = tt
-stated_answers Answers name told contents p a names s h = (names, of_files name told contents names _ _ (stated_answered Answers names a p h) s)
+pub stated_answers : (Answers : PlainProblem → Answer → Type 0) (name : List ℕ) (seen : Seen) (p : PlainProblem) (a : Answer) → (names : List (List ℕ)) → OfFiles name seen names (Statements p) → Answers p a → IsFilesAnswer Answers name seen a
+stated_answers Answers name seen p answer.Memory names s h = tt
+stated_answers Answers name seen p a names s h = (names, of_files name seen names _ _ (stated_answered Answers names a p h) s)

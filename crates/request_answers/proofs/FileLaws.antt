@@ -1,5 +1,5 @@
 -- What files are answered with is what a request is.
-use Rattle.std.proofs.Common.{◌≡◌, ◌<◌, ◌⊎◌, inl, inr, ℕ, Bool, true, IsTrue, List, [], ◌∷◌, length, Option, Some, None, Result, Ok, Err, refl, sym, ap, subst, ◌∙◌}
+use Rattle.std.proofs.Common.{◌≡◌, ◌<◌, ◌⊎◌, inl, inr, ℕ, IsTrue, List, [], ◌∷◌, length, Option, Some, None, Result, Ok, Err, refl, sym, ap, subst, ◌∙◌}
 use Rattle.outside.specs.Causes.{Rose}
 use Rattle.stt_core.specs.PlainProblem.{PlainProblem}
 use Rattle.thf_include.specs.Answer.{AreContents}
@@ -16,11 +16,12 @@ use Rattle.szs_report.specs.declared.answer.Answer.TheVariants.{Proved, ModeAt, 
 use Rattle.szs_report.specs.declared.answer.Claim.TheVariants.{Theorem, Unsatisfiable}
 use Rattle.szs_report.specs.declared.answer.NamedFile.TheVariants.{Part, Check}
 use Rattle.szs_report.specs.declared.answer.NamedFile.TheVariants as named
-use Rattle.request_answers.specs.Requested.{problem_name, told_of, contents_of, mode_file, schedule_file}
+use Rattle.request_answers.specs.Requested.{problem_name, seen_of, mode_file, schedule_file}
 use Rattle.request_answers.specs.Files.{OfFiles}
 use Rattle.request_answers.specs.Modes.{IsModeBy}
 use Rattle.request_answers.specs.Schedules.{IsScheduleBy}
 use Rattle.outside.specs.Limits.{byte_limit}
+use Rattle.outside.specs.Seen.{Seen}
 use Rattle.request_answers.specs.Solved.{IsDemoed}
 use Rattle.request_answers.specs.Answers.{stop_answer, AnswersProblem, AnswersStated, AnswersEnding, AnswersRequest}
 use Rattle.request_answers.specs.Causes.{IsFaultIn, IsFaultOf, IsModeFault, IsScheduleFault, IsTextFault, HasCauseOf}
@@ -45,89 +46,89 @@ stop_not_guide names (cycle file at) h = h
 stop_not_guide names (too_many file at) h = h
 stop_not_guide names (no_name file at) h = h
 
-problem_not_guide : (told : Bool) (contents : List ℕ → Option (List ℕ)) (r : Request) (m : Mode) (bs : List Block) (p : PlainProblem) (a : Answer) → IsOfGuide a → AnswersProblem told contents r m bs p a → ⊥
-problem_not_guide told contents (prove q file nodes) m bs p (ReadFault (named.Mode f)) o h = h
-problem_not_guide told contents (prove q file nodes) m bs p (TooLong (named.Mode f)) o h = h
-problem_not_guide told contents (prove q file nodes) m bs p (ModeAt line why) o h = h
-problem_not_guide told contents (prove q file nodes) m bs p (ReadFault (named.Schedule f)) o h = h
-problem_not_guide told contents (prove q file nodes) m bs p (TooLong (named.Schedule f)) o h = h
-problem_not_guide told contents (prove q file nodes) m bs p (ScheduleAt line why) o h = h
-problem_not_guide told contents (by_schedule file q) m bs p (ReadFault (named.Mode f)) o h = h
-problem_not_guide told contents (by_schedule file q) m bs p (TooLong (named.Mode f)) o h = h
-problem_not_guide told contents (by_schedule file q) m bs p (ModeAt line why) o h = h
-problem_not_guide told contents (by_schedule file q) m bs p (ReadFault (named.Schedule f)) o h = h
-problem_not_guide told contents (by_schedule file q) m bs p (TooLong (named.Schedule f)) o h = h
-problem_not_guide told contents (by_schedule file q) m bs p (ScheduleAt line why) o h = h
-problem_not_guide told contents (refutation cuts t q) m bs p (ReadFault (named.Mode f)) o h = h.holds
-problem_not_guide told contents (refutation cuts t q) m bs p (TooLong (named.Mode f)) o h = h.holds
-problem_not_guide told contents (refutation cuts t q) m bs p (ModeAt line why) o h = h.holds
-problem_not_guide told contents (refutation cuts t q) m bs p (ReadFault (named.Schedule f)) o h = h.holds
-problem_not_guide told contents (refutation cuts t q) m bs p (TooLong (named.Schedule f)) o h = h.holds
-problem_not_guide told contents (refutation cuts t q) m bs p (ScheduleAt line why) o h = h.holds
-problem_not_guide told contents (generated n) m bs p (ReadFault (named.Mode f)) o h = h
-problem_not_guide told contents (generated n) m bs p (TooLong (named.Mode f)) o h = h
-problem_not_guide told contents (generated n) m bs p (ModeAt line why) o h = h
-problem_not_guide told contents (generated n) m bs p (ReadFault (named.Schedule f)) o h = h
-problem_not_guide told contents (generated n) m bs p (TooLong (named.Schedule f)) o h = h
-problem_not_guide told contents (generated n) m bs p (ScheduleAt line why) o h = h
-problem_not_guide told contents (models k q) m bs p (ReadFault (named.Mode f)) o h = h
-problem_not_guide told contents (models k q) m bs p (TooLong (named.Mode f)) o h = h
-problem_not_guide told contents (models k q) m bs p (ModeAt line why) o h = h
-problem_not_guide told contents (models k q) m bs p (ReadFault (named.Schedule f)) o h = h
-problem_not_guide told contents (models k q) m bs p (TooLong (named.Schedule f)) o h = h
-problem_not_guide told contents (models k q) m bs p (ScheduleAt line why) o h = h
-problem_not_guide told contents (sides q) m bs p (ReadFault (named.Mode f)) o h = h
-problem_not_guide told contents (sides q) m bs p (TooLong (named.Mode f)) o h = h
-problem_not_guide told contents (sides q) m bs p (ModeAt line why) o h = h
-problem_not_guide told contents (sides q) m bs p (ReadFault (named.Schedule f)) o h = h
-problem_not_guide told contents (sides q) m bs p (TooLong (named.Schedule f)) o h = h
-problem_not_guide told contents (sides q) m bs p (ScheduleAt line why) o h = h
-problem_not_guide told contents r m bs p a o h = absurd o
+problem_not_guide : (seen : Seen) (r : Request) (m : Mode) (bs : List Block) (p : PlainProblem) (a : Answer) → IsOfGuide a → AnswersProblem seen r m bs p a → ⊥
+problem_not_guide seen (prove q file nodes) m bs p (ReadFault (named.Mode f)) o h = h
+problem_not_guide seen (prove q file nodes) m bs p (TooLong (named.Mode f)) o h = h
+problem_not_guide seen (prove q file nodes) m bs p (ModeAt line why) o h = h
+problem_not_guide seen (prove q file nodes) m bs p (ReadFault (named.Schedule f)) o h = h
+problem_not_guide seen (prove q file nodes) m bs p (TooLong (named.Schedule f)) o h = h
+problem_not_guide seen (prove q file nodes) m bs p (ScheduleAt line why) o h = h
+problem_not_guide seen (by_schedule file q) m bs p (ReadFault (named.Mode f)) o h = h
+problem_not_guide seen (by_schedule file q) m bs p (TooLong (named.Mode f)) o h = h
+problem_not_guide seen (by_schedule file q) m bs p (ModeAt line why) o h = h
+problem_not_guide seen (by_schedule file q) m bs p (ReadFault (named.Schedule f)) o h = h
+problem_not_guide seen (by_schedule file q) m bs p (TooLong (named.Schedule f)) o h = h
+problem_not_guide seen (by_schedule file q) m bs p (ScheduleAt line why) o h = h
+problem_not_guide seen (refutation cuts t q) m bs p (ReadFault (named.Mode f)) o h = h.holds
+problem_not_guide seen (refutation cuts t q) m bs p (TooLong (named.Mode f)) o h = h.holds
+problem_not_guide seen (refutation cuts t q) m bs p (ModeAt line why) o h = h.holds
+problem_not_guide seen (refutation cuts t q) m bs p (ReadFault (named.Schedule f)) o h = h.holds
+problem_not_guide seen (refutation cuts t q) m bs p (TooLong (named.Schedule f)) o h = h.holds
+problem_not_guide seen (refutation cuts t q) m bs p (ScheduleAt line why) o h = h.holds
+problem_not_guide seen (generated n) m bs p (ReadFault (named.Mode f)) o h = h
+problem_not_guide seen (generated n) m bs p (TooLong (named.Mode f)) o h = h
+problem_not_guide seen (generated n) m bs p (ModeAt line why) o h = h
+problem_not_guide seen (generated n) m bs p (ReadFault (named.Schedule f)) o h = h
+problem_not_guide seen (generated n) m bs p (TooLong (named.Schedule f)) o h = h
+problem_not_guide seen (generated n) m bs p (ScheduleAt line why) o h = h
+problem_not_guide seen (models k q) m bs p (ReadFault (named.Mode f)) o h = h
+problem_not_guide seen (models k q) m bs p (TooLong (named.Mode f)) o h = h
+problem_not_guide seen (models k q) m bs p (ModeAt line why) o h = h
+problem_not_guide seen (models k q) m bs p (ReadFault (named.Schedule f)) o h = h
+problem_not_guide seen (models k q) m bs p (TooLong (named.Schedule f)) o h = h
+problem_not_guide seen (models k q) m bs p (ScheduleAt line why) o h = h
+problem_not_guide seen (sides q) m bs p (ReadFault (named.Mode f)) o h = h
+problem_not_guide seen (sides q) m bs p (TooLong (named.Mode f)) o h = h
+problem_not_guide seen (sides q) m bs p (ModeAt line why) o h = h
+problem_not_guide seen (sides q) m bs p (ReadFault (named.Schedule f)) o h = h
+problem_not_guide seen (sides q) m bs p (TooLong (named.Schedule f)) o h = h
+problem_not_guide seen (sides q) m bs p (ScheduleAt line why) o h = h
+problem_not_guide seen r m bs p a o h = absurd o
 
-ending_not_guide : (told : Bool) (contents : List ℕ → Option (List ℕ)) (r : Request) (m : Mode) (bs : List Block) (names : List (List ℕ)) (a : Answer) (e : Ending) → IsOfGuide a → AnswersEnding (AnswersProblem told contents r m bs) names a e → ⊥
-ending_not_guide told contents r m bs names a (stopped s) o h = stop_not_guide names s (subst IsOfGuide h o)
-ending_not_guide told contents r m bs names a (done ss) o h = go (problem_of ss) h
+ending_not_guide : (seen : Seen) (r : Request) (m : Mode) (bs : List Block) (names : List (List ℕ)) (a : Answer) (e : Ending) → IsOfGuide a → AnswersEnding (AnswersProblem seen r m bs) names a e → ⊥
+ending_not_guide seen r m bs names a (stopped s) o h = stop_not_guide names s (subst IsOfGuide h o)
+ending_not_guide seen r m bs names a (done ss) o h = go (problem_of ss) h
   where
-    go : (q : Result PlainProblem IllInFile) → AnswersStated (AnswersProblem told contents r m bs) names a q → ⊥
-    go (Ok p) k = problem_not_guide told contents r m bs p a o k
+    go : (q : Result PlainProblem IllInFile) → AnswersStated (AnswersProblem seen r m bs) names a q → ⊥
+    go (Ok p) k = problem_not_guide seen r m bs p a o k
     go (Err ill) k = subst IsOfGuide k o
 
 -- files are answered as their request is, by its mode and its blocks
-module _ (r : Request) (told : Bool) (contents : List ℕ → Option (List ℕ)) (m : Mode) (mode : IsModeBy told contents (mode_file r) m) (bs : List Block) (blocks : IsScheduleBy told contents (schedule_file r) bs) where
+module _ (r : Request) (seen : Seen) (m : Mode) (mode : IsModeBy seen (mode_file r) m) (bs : List Block) (blocks : IsScheduleBy seen (schedule_file r) bs) where
   abbrev AreAnswered : Answer → Type 0
-  AreAnswered a = IsFilesAnswer (AnswersProblem told contents r m bs) (problem_name r) (told_of told r) (contents_of contents r) a
+  AreAnswered a = IsFilesAnswer (AnswersProblem seen r m bs) (problem_name r) (seen_of seen r) a
 
-  pub files_request : (a : Answer) → AreAnswered a → AnswersRequest r told contents a
+  pub files_request : (a : Answer) → AreAnswered a → AnswersRequest r seen a
   files_request Memory h = tt
-  files_request (ReadFault (named.Mode f)) h = absurd (ending_not_guide told contents r m bs h.0 (ReadFault (named.Mode f)) h.1.ending tt h.1.holds)
-  files_request (TooLong (named.Mode f)) h = absurd (ending_not_guide told contents r m bs h.0 (TooLong (named.Mode f)) h.1.ending tt h.1.holds)
-  files_request (ModeAt line why) h = absurd (ending_not_guide told contents r m bs h.0 (ModeAt line why) h.1.ending tt h.1.holds)
-  files_request (ReadFault (named.Schedule f)) h = absurd (ending_not_guide told contents r m bs h.0 (ReadFault (named.Schedule f)) h.1.ending tt h.1.holds)
-  files_request (TooLong (named.Schedule f)) h = absurd (ending_not_guide told contents r m bs h.0 (TooLong (named.Schedule f)) h.1.ending tt h.1.holds)
-  files_request (ScheduleAt line why) h = absurd (ending_not_guide told contents r m bs h.0 (ScheduleAt line why) h.1.ending tt h.1.holds)
+  files_request (ReadFault (named.Mode f)) h = absurd (ending_not_guide seen r m bs h.0 (ReadFault (named.Mode f)) h.1.ending tt h.1.holds)
+  files_request (TooLong (named.Mode f)) h = absurd (ending_not_guide seen r m bs h.0 (TooLong (named.Mode f)) h.1.ending tt h.1.holds)
+  files_request (ModeAt line why) h = absurd (ending_not_guide seen r m bs h.0 (ModeAt line why) h.1.ending tt h.1.holds)
+  files_request (ReadFault (named.Schedule f)) h = absurd (ending_not_guide seen r m bs h.0 (ReadFault (named.Schedule f)) h.1.ending tt h.1.holds)
+  files_request (TooLong (named.Schedule f)) h = absurd (ending_not_guide seen r m bs h.0 (TooLong (named.Schedule f)) h.1.ending tt h.1.holds)
+  files_request (ScheduleAt line why) h = absurd (ending_not_guide seen r m bs h.0 (ScheduleAt line why) h.1.ending tt h.1.holds)
   files_request a h = record { mode = m; is_mode = mode; blocks = bs; are_blocks = blocks; names = h.0; files = h.1 }
 
 -- files aren't answered as the file of a mode or of a schedule is
-pub files_not_guide : (r : Request) (told : Bool) (contents : List ℕ → Option (List ℕ)) (m : Mode) (bs : List Block) (a : Answer) → IsOfGuide a → IsFilesAnswer (AnswersProblem told contents r m bs) (problem_name r) (told_of told r) (contents_of contents r) a → ⊥
-files_not_guide r told contents m bs Memory o h = o
-files_not_guide r told contents m bs a o h = ending_not_guide told contents r m bs h.0 a h.1.ending o h.1.holds
+pub files_not_guide : (r : Request) (seen : Seen) (m : Mode) (bs : List Block) (a : Answer) → IsOfGuide a → IsFilesAnswer (AnswersProblem seen r m bs) (problem_name r) (seen_of seen r) a → ⊥
+files_not_guide r seen m bs Memory o h = o
+files_not_guide r seen m bs a o h = ending_not_guide seen r m bs h.0 a h.1.ending o h.1.holds
 
 -- a mode's file that isn't read
-pub mode_request : (p : List ℕ) (file : Option (List ℕ)) (nodes : Option ℕ) (told : Bool) (contents : List ℕ → Option (List ℕ)) (a : Answer) → IsUnaskedMode told contents file a → AnswersRequest (prove p file nodes) told contents a
-mode_request p None nodes told contents a h = absurd h
-mode_request p (Some file) nodes told contents Memory h = tt
-mode_request p (Some file) nodes told contents (ReadFault (named.Mode own)) h = ap Some (sym h)
-mode_request p (Some file) nodes told contents (TooLong (named.Mode own)) h = (ap Some (sym h.0), subst (λ f. IsTrue told → (bytes : List ℕ) × (contents f ≡ Some bytes) × (byte_limit < length bytes)) (sym h.0) h.1)
-mode_request p (Some file) nodes told contents (ModeAt line why) h = h
-mode_request p (Some file) nodes told contents a h = absurd h
+pub mode_request : (p : List ℕ) (file : Option (List ℕ)) (nodes : Option ℕ) (seen : Seen) (a : Answer) → IsUnaskedMode seen file a → AnswersRequest (prove p file nodes) seen a
+mode_request p None nodes seen a h = absurd h
+mode_request p (Some file) nodes seen Memory h = tt
+mode_request p (Some file) nodes seen (ReadFault (named.Mode own)) h = ap Some (sym h)
+mode_request p (Some file) nodes seen (TooLong (named.Mode own)) h = (ap Some (sym h.0), subst (λ f. IsTrue seen.tells → (bytes : List ℕ) × (seen.contents f ≡ Some bytes) × (byte_limit < length bytes)) (sym h.0) h.1)
+mode_request p (Some file) nodes seen (ModeAt line why) h = h
+mode_request p (Some file) nodes seen a h = absurd h
 
 -- a schedule's file that isn't read
-pub schedule_request : (file p : List ℕ) (told : Bool) (contents : List ℕ → Option (List ℕ)) (a : Answer) → IsUnreadSchedule told contents file a → AnswersRequest (by_schedule file p) told contents a
-schedule_request file p told contents Memory h = tt
-schedule_request file p told contents (ReadFault (named.Schedule own)) h = ap Some (sym h)
-schedule_request file p told contents (TooLong (named.Schedule own)) h = (ap Some (sym h.0), subst (λ f. IsTrue told → (bytes : List ℕ) × (contents f ≡ Some bytes) × (byte_limit < length bytes)) (sym h.0) h.1)
-schedule_request file p told contents (ScheduleAt line why) h = h
-schedule_request file p told contents a h = absurd h
+pub schedule_request : (file p : List ℕ) (seen : Seen) (a : Answer) → IsUnreadSchedule seen file a → AnswersRequest (by_schedule file p) seen a
+schedule_request file p seen Memory h = tt
+schedule_request file p seen (ReadFault (named.Schedule own)) h = ap Some (sym h)
+schedule_request file p seen (TooLong (named.Schedule own)) h = (ap Some (sym h.0), subst (λ f. IsTrue seen.tells → (bytes : List ℕ) × (seen.contents f ≡ Some bytes) × (byte_limit < length bytes)) (sym h.0) h.1)
+schedule_request file p seen (ScheduleAt line why) h = h
+schedule_request file p seen a h = absurd h
 
 -- contents that are the same under each name
 same_contents : (one other : List ℕ → Option (List ℕ)) → ((f : List ℕ) → one f ≡ other f) → (names texts : List (List ℕ)) → AreContents one names texts → AreContents other names texts
@@ -136,16 +137,16 @@ same_contents one other same [] (t ∷ ts) h = h
 same_contents one other same (n ∷ names) (t ∷ ts) h = (sym (same n) ∙ h.0, same_contents one other same names ts h.1)
 
 -- a generated problem is answered as its request is
-pub demo_request : (n : ℕ) (held : Bool) (one : List ℕ → Option (List ℕ)) → IsTrue held → ((f : List ℕ) → one f ≡ Some (text n)) → (a : Answer) → IsFilesAnswer (IsDemoed (mode_of nothing_given)) (problem_name (generated n)) held one a → (told : Bool) (contents : List ℕ → Option (List ℕ)) → AnswersRequest (generated n) told contents a
-demo_request n held one is same a h told contents = files_request (generated n) told contents (mode_of nothing_given) refl [] refl a (moved a h)
+pub demo_request : (n : ℕ) (one : Seen) → IsTrue one.tells → ((f : List ℕ) → one.contents f ≡ Some (text n)) → (a : Answer) → IsFilesAnswer (IsDemoed (mode_of nothing_given)) (problem_name (generated n)) one a → (seen : Seen) → AnswersRequest (generated n) seen a
+demo_request n one is same a h seen = files_request (generated n) seen (mode_of nothing_given) refl [] refl a (moved a h)
   where
-    moved : (a : Answer) → IsFilesAnswer (IsDemoed (mode_of nothing_given)) (problem_name (generated n)) held one a → IsFilesAnswer (AnswersProblem told contents (generated n) (mode_of nothing_given) []) (problem_name (generated n)) true (λ f. Some (text n)) a
+    moved : (a : Answer) → IsFilesAnswer (IsDemoed (mode_of nothing_given)) (problem_name (generated n)) one a → IsFilesAnswer (AnswersProblem seen (generated n) (mode_of nothing_given) []) (problem_name (generated n)) (seen_of seen (generated n)) a
     moved Memory h = tt
     moved a h = (
       h.0,
       record {
         texts = h.1.texts;
-        told_texts = λ _. same_contents one (λ f. Some (text n)) same h.0 h.1.texts (h.1.told_texts is);
+        told_texts = λ _. same_contents one.contents (λ f. Some (text n)) same h.0 h.1.texts (h.1.told_texts is);
         ending = h.1.ending;
         gathers = h.1.gathers;
         holds = h.1.holds;
@@ -153,29 +154,29 @@ demo_request n held one is same a h told contents = files_request (generated n) 
     )
 
 -- a fault is one from the beginning on, where nothing has changed before
-pub fault_before : (name : List ℕ) (told : Bool) (contents : List ℕ → Option (List ℕ)) (t : Bool) (c : List ℕ → Option (List ℕ)) (before old now : List ℕ → ℕ) (k : ℕ) → t ≡ told → c ≡ contents → ((f : List ℕ) → old f ≡ before f) → IsFaultIn name t c old now k → IsFaultIn name told contents before now k
-fault_before name told contents t c before old now k e f same h = record {
+pub fault_before : (name : List ℕ) (seen one : Seen) (before old now : List ℕ → ℕ) (k : ℕ) → one ≡ seen → ((f : List ℕ) → old f ≡ before f) → IsFaultIn name one old now k → IsFaultIn name seen before now k
+fault_before name seen one before old now k e same h = record {
   names = h.names;
   file = h.file;
   named = h.named;
-  wanted = subst (λ x. OfFiles name told x h.names (λ ending. ending ≡ stopped (wants k))) f (subst (λ b. OfFiles name b c h.names (λ ending. ending ≡ stopped (wants k))) e h.wanted);
+  wanted = subst (λ x. OfFiles name x h.names (λ ending. ending ≡ stopped (wants k))) e h.wanted;
   rose = subst (λ n. Rose n (now h.file)) (same h.file) h.rose;
 }
 
 -- the cause of an answer's outcome, by what is known of each
-pub cause_of : (r : Request) (told : Bool) (contents : List ℕ → Option (List ℕ)) (before now : List ℕ → ℕ) (a : Answer)
-    → ((k : ℕ) (names : List (List ℕ)) → a ≡ ReadFault (Part k names) → IsFaultOf r told contents before now k)
+pub cause_of : (r : Request) (seen : Seen) (before now : List ℕ → ℕ) (a : Answer)
+    → ((k : ℕ) (names : List (List ℕ)) → a ≡ ReadFault (Part k names) → IsFaultOf r seen before now k)
     → ((name : List ℕ) → a ≡ ReadFault (named.Mode name) → IsModeFault r before now)
     → ((name : List ℕ) → a ≡ ReadFault (named.Schedule name) → IsScheduleFault r before now)
-    → ((name : List ℕ) → a ≡ ReadFault (Check name) → IsTextFault r told contents before now)
-    → (IsNoReadFault a → (file : List ℕ) → now file ≡ before file) → HasCauseOf r told contents before now (outcome_of a)
-cause_of r told contents before now (ReadFault (Part k names)) f g i h q = f k names refl
-cause_of r told contents before now (ReadFault (named.Mode name)) f g i h q = g name refl
-cause_of r told contents before now (ReadFault (named.Schedule name)) f g i h q = i name refl
-cause_of r told contents before now (ReadFault (Check name)) f g i h q = h name refl
-cause_of r told contents before now (Proved Theorem n mode tree text) f g i h q = q tt
-cause_of r told contents before now (Proved Unsatisfiable n mode tree text) f g i h q = q tt
-cause_of r told contents before now a f g i h q = q tt
+    → ((name : List ℕ) → a ≡ ReadFault (Check name) → IsTextFault r seen before now)
+    → (IsNoReadFault a → (file : List ℕ) → now file ≡ before file) → HasCauseOf r seen before now (outcome_of a)
+cause_of r seen before now (ReadFault (Part k names)) f g i h q = f k names refl
+cause_of r seen before now (ReadFault (named.Mode name)) f g i h q = g name refl
+cause_of r seen before now (ReadFault (named.Schedule name)) f g i h q = i name refl
+cause_of r seen before now (ReadFault (Check name)) f g i h q = h name refl
+cause_of r seen before now (Proved Theorem n mode tree text) f g i h q = q tt
+cause_of r seen before now (Proved Unsatisfiable n mode tree text) f g i h q = q tt
+cause_of r seen before now a f g i h q = q tt
 
 -- the text of a refutation is read only where one is to be checked
 part_stop : (names : List (List ℕ)) (name : List ℕ) (s : Stop) → ReadFault (Check name) ≡ stop_answer names s → ⊥
@@ -186,36 +187,36 @@ part_stop names name (cycle file at) e = cc
 part_stop names name (too_many file at) e = cc
 part_stop names name (no_name file at) e = cc
 
-no_text_read : (r : Request) (told : Bool) (contents : List ℕ → Option (List ℕ)) (name : List ℕ) → ((m : Mode) (bs : List Block) (q : PlainProblem) → AnswersProblem told contents r m bs q (ReadFault (Check name)) → ⊥) → AnswersRequest r told contents (ReadFault (Check name)) → ⊥
-no_text_read r told contents name none h = go h.files.ending h.files.holds
+no_text_read : (r : Request) (seen : Seen) (name : List ℕ) → ((m : Mode) (bs : List Block) (q : PlainProblem) → AnswersProblem seen r m bs q (ReadFault (Check name)) → ⊥) → AnswersRequest r seen (ReadFault (Check name)) → ⊥
+no_text_read r seen name none h = go h.files.ending h.files.holds
   where
-    stated : (x : Result PlainProblem IllInFile) → AnswersStated (AnswersProblem told contents r h.mode h.blocks) h.names (ReadFault (Check name)) x → ⊥
+    stated : (x : Result PlainProblem IllInFile) → AnswersStated (AnswersProblem seen r h.mode h.blocks) h.names (ReadFault (Check name)) x → ⊥
     stated (Ok q) k = none h.mode h.blocks q k
     stated (Err ill) k = cc
 
-    go : (e : Ending) → AnswersEnding (AnswersProblem told contents r h.mode h.blocks) h.names (ReadFault (Check name)) e → ⊥
+    go : (e : Ending) → AnswersEnding (AnswersProblem seen r h.mode h.blocks) h.names (ReadFault (Check name)) e → ⊥
     go (stopped s) k = part_stop h.names name s k
     go (done ss) k = stated (problem_of ss) k
 
-pub no_text_asked : (p : List ℕ) (file : Option (List ℕ)) (nodes : Option ℕ) (told : Bool) (contents : List ℕ → Option (List ℕ)) (name : List ℕ) → AnswersRequest (prove p file nodes) told contents (ReadFault (Check name)) → ⊥
-no_text_asked p file nodes told contents name h = no_text_read (prove p file nodes) told contents name (λ m bs q k. k) h
+pub no_text_asked : (p : List ℕ) (file : Option (List ℕ)) (nodes : Option ℕ) (seen : Seen) (name : List ℕ) → AnswersRequest (prove p file nodes) seen (ReadFault (Check name)) → ⊥
+no_text_asked p file nodes seen name h = no_text_read (prove p file nodes) seen name (λ m bs q k. k) h
 
-pub no_text_scheduled : (file p : List ℕ) (told : Bool) (contents : List ℕ → Option (List ℕ)) (name : List ℕ) → AnswersRequest (by_schedule file p) told contents (ReadFault (Check name)) → ⊥
-no_text_scheduled file p told contents name h = no_text_read (by_schedule file p) told contents name (λ m bs q k. k) h
+pub no_text_scheduled : (file p : List ℕ) (seen : Seen) (name : List ℕ) → AnswersRequest (by_schedule file p) seen (ReadFault (Check name)) → ⊥
+no_text_scheduled file p seen name h = no_text_read (by_schedule file p) seen name (λ m bs q k. k) h
 
-pub no_text_modelled : (k : ℕ) (p : List ℕ) (told : Bool) (contents : List ℕ → Option (List ℕ)) (name : List ℕ) → AnswersRequest (models k p) told contents (ReadFault (Check name)) → ⊥
-no_text_modelled k p told contents name h = no_text_read (models k p) told contents name (λ m bs q k. k) h
+pub no_text_modelled : (k : ℕ) (p : List ℕ) (seen : Seen) (name : List ℕ) → AnswersRequest (models k p) seen (ReadFault (Check name)) → ⊥
+no_text_modelled k p seen name h = no_text_read (models k p) seen name (λ m bs q k. k) h
 
-pub no_text_compared : (p : List ℕ) (told : Bool) (contents : List ℕ → Option (List ℕ)) (name : List ℕ) → AnswersRequest (sides p) told contents (ReadFault (Check name)) → ⊥
-no_text_compared p told contents name h = no_text_read (sides p) told contents name (λ m bs q k. k) h
+pub no_text_compared : (p : List ℕ) (seen : Seen) (name : List ℕ) → AnswersRequest (sides p) seen (ReadFault (Check name)) → ⊥
+no_text_compared p seen name h = no_text_read (sides p) seen name (λ m bs q k. k) h
 
 -- the mode's file is the one that is asked for
-pub mode_fault : (r : Request) (told : Bool) (contents : List ℕ → Option (List ℕ)) (before now : List ℕ → ℕ) (name : List ℕ) → AnswersRequest r told contents (ReadFault (named.Mode name)) → Rose (before name) (now name) → IsModeFault r before now
-mode_fault r told contents before now name h rose = record { file = name; named = h; rose = rose }
+pub mode_fault : (r : Request) (seen : Seen) (before now : List ℕ → ℕ) (name : List ℕ) → AnswersRequest r seen (ReadFault (named.Mode name)) → Rose (before name) (now name) → IsModeFault r before now
+mode_fault r seen before now name h rose = record { file = name; named = h; rose = rose }
 
 -- so is the schedule's file
-pub schedule_fault : (r : Request) (told : Bool) (contents : List ℕ → Option (List ℕ)) (before now : List ℕ → ℕ) (name : List ℕ) → AnswersRequest r told contents (ReadFault (named.Schedule name)) → Rose (before name) (now name) → IsScheduleFault r before now
-schedule_fault r told contents before now name h rose = record { file = name; named = h; rose = rose }
+pub schedule_fault : (r : Request) (seen : Seen) (before now : List ℕ → ℕ) (name : List ℕ) → AnswersRequest r seen (ReadFault (named.Schedule name)) → Rose (before name) (now name) → IsScheduleFault r before now
+schedule_fault r seen before now name h rose = record { file = name; named = h; rose = rose }
 
 -- what isn't read without a fault is answered without one
 unread_ending : (names : List (List ℕ)) (a : Answer) (e : Ending) → (IsOfGuide a → ⊥) → IsUnstated names a e → IsNoReadFault a ⊎ ((k : ℕ) × (a ≡ ReadFault (Part k names)))
@@ -227,8 +228,8 @@ unread_ending names a (stopped (cycle file at)) apart h = inl (subst IsNoReadFau
 unread_ending names a (stopped (too_many file at)) apart h = inl (subst IsNoReadFault (sym h) tt)
 unread_ending names a (stopped (no_name file at)) apart h = inl (subst IsNoReadFault (sym h) tt)
 
-no_fault_there : (name : List ℕ) (told : Bool) (contents : List ℕ → Option (List ℕ)) (names : List (List ℕ)) (a : Answer) → ((k : ℕ) (ns : List (List ℕ)) → a ≡ ReadFault (Part k ns) → ⊥) → OfFiles name told contents names (IsUnstated names a) → (IsOfGuide a → ⊥) → IsNoReadFault a
-no_fault_there name told contents names a f h apart = go (unread_ending names a h.ending apart h.holds)
+no_fault_there : (name : List ℕ) (seen : Seen) (names : List (List ℕ)) (a : Answer) → ((k : ℕ) (ns : List (List ℕ)) → a ≡ ReadFault (Part k ns) → ⊥) → OfFiles name seen names (IsUnstated names a) → (IsOfGuide a → ⊥) → IsNoReadFault a
+no_fault_there name seen names a f h apart = go (unread_ending names a h.ending apart h.holds)
   where
     go : IsNoReadFault a ⊎ ((k : ℕ) × (a ≡ ReadFault (Part k names))) → IsNoReadFault a
     go (inl q) = q
@@ -238,6 +239,6 @@ unstated_not_guide : (names : List (List ℕ)) (a : Answer) (e : Ending) → IsU
 unstated_not_guide names a (done ss) h o = subst IsOfGuide h.answered o
 unstated_not_guide names a (stopped s) h o = stop_not_guide names s (subst IsOfGuide h o)
 
-pub unread_no_fault : (name : List ℕ) (told : Bool) (contents : List ℕ → Option (List ℕ)) (a : Answer) → ((k : ℕ) (ns : List (List ℕ)) → a ≡ ReadFault (Part k ns) → ⊥) → IsUnread name told contents a → IsNoReadFault a
-unread_no_fault name told contents Memory f h = tt
-unread_no_fault name told contents a f h = no_fault_there name told contents h.0 a f h.1 (unstated_not_guide h.0 a h.1.ending h.1.holds)
+pub unread_no_fault : (name : List ℕ) (seen : Seen) (a : Answer) → ((k : ℕ) (ns : List (List ℕ)) → a ≡ ReadFault (Part k ns) → ⊥) → IsUnread name seen a → IsNoReadFault a
+unread_no_fault name seen Memory f h = tt
+unread_no_fault name seen a f h = no_fault_there name seen h.0 a f h.1 (unstated_not_guide h.0 a h.1.ending h.1.holds)

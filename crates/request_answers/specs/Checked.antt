@@ -1,5 +1,5 @@
 -- What the check of a refutation's text is answered with.
-use Rattle.std.specs.Prelude.{◌≡◌, ℕ, Bool, List, Option}
+use Rattle.std.specs.Prelude.{◌≡◌, ℕ, List}
 use Rattle.stt_core.specs.PlainProblem.{PlainProblem}
 use Rattle.delta_defs.specs.Unfolding.{taken_names}
 use Rattle.tableau_calculus.specs.declared.refutation.Why.{Why}
@@ -8,6 +8,7 @@ use Rattle.tableau_calculus.specs.declared.refutation.Refutation.{Refutation}
 use Rattle.refute_print.specs.Trees.{RefutationTree}
 use Rattle.refute_print.specs.Named.{named_refutation}
 use Rattle.outside.specs.Lines.{lines_of}
+use Rattle.outside.specs.Seen.{Seen}
 use Rattle.refute_text.specs.Reading.{TextReading, read, bad_line, no_start, no_end, ReadsText}
 use Rattle.refute_check.specs.Numbered.{numbered_refutation}
 use Rattle.refute_check.specs.Acceptance.{IsAcceptedFor, TextFailsAt}
@@ -58,11 +59,11 @@ AnswersBytes cuts p bytes (Refused line why) = IsRefusedText cuts p bytes line w
 AnswersBytes cuts p bytes answer = ⊥
 
 -- what the text in a file is answered with, where it is checked against this problem; it is a fault's, where the file can't be read
-abbrev pub AnswersText : Cuts → Bool → (List ℕ → Option (List ℕ)) → List ℕ → PlainProblem → Answer → Type 0
-AnswersText cuts told contents file p Memory = Unit {0}
-AnswersText cuts told contents file p (ReadFault (Check name)) = name ≡ file
-AnswersText cuts told contents file p (TooLong (Check name)) = (name ≡ file) × IsLongFile told contents file
-AnswersText cuts told contents file p answer = OfFile told contents file (λ bytes. AnswersBytes cuts p bytes answer)
+abbrev pub AnswersText : Cuts → Seen → List ℕ → PlainProblem → Answer → Type 0
+AnswersText cuts seen file p Memory = Unit {0}
+AnswersText cuts seen file p (ReadFault (Check name)) = name ≡ file
+AnswersText cuts seen file p (TooLong (Check name)) = (name ≡ file) × IsLongFile seen file
+AnswersText cuts seen file p answer = OfFile seen file (λ bytes. AnswersBytes cuts p bytes answer)
 
 -- The bytes hold one refutation, which is this one, with the names of the definitions that are taken: so they are read, and in no other
 -- way.

@@ -16,6 +16,7 @@ pub use Rattle.mode_schedule.specs.Turns
 pub use Rattle.outside.specs.Causes as OutsideCauses
 pub use Rattle.outside.specs.Limits
 pub use Rattle.outside.specs.Lines
+pub use Rattle.outside.specs.Seen
 pub use Rattle.problem_gen.specs.Chain
 pub use Rattle.prover_run.specs.Ended
 pub use Rattle.refute_check.specs.Acceptance

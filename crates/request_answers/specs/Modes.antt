@@ -1,5 +1,6 @@
 -- The mode that a problem is proved by.
-use Rattle.std.specs.Prelude.{ℕ, Bool, List, Option}
+use Rattle.std.specs.Prelude.{ℕ, List, Option}
+use Rattle.outside.specs.Seen.{Seen}
 use Rattle.mode_file.specs.declared.Mode.{Mode}
 use Rattle.mode_file.specs.declared.refused.ModeRefused.{ModeRefused}
 use Rattle.mode_file.specs.declared.refused.ModeRefused.TheVariants as refusal
@@ -11,8 +12,8 @@ use Rattle.szs_report.specs.declared.outcome.ModeWhy.TheVariants.{UnknownKey, Tw
 use Rattle.request_answers.specs.NamedFiles.{IsStatedBy, IsRefusedBy}
 
 -- the mode that a file states, or the standard one where no file is named
-abbrev pub IsModeBy : Bool → (List ℕ → Option (List ℕ)) → Option (List ℕ) → Mode → Type 0
-IsModeBy told contents file mode = IsStatedBy States (mode_of nothing_given) told contents file mode
+abbrev pub IsModeBy : Seen → Option (List ℕ) → Mode → Type 0
+IsModeBy seen file mode = IsStatedBy States (mode_of nothing_given) seen file mode
 
 -- the refusal of a line, for a cause
 abbrev pub refused_at : ModeWhy → ℕ → ModeRefused
@@ -22,5 +23,5 @@ refused_at BadNumber line = refusal.BadNumber line
 refused_at OutOfRange line = refusal.OutOfRange line
 
 -- a file is named, and this line of it is the first bad one, for this cause
-abbrev pub IsBadMode : Bool → (List ℕ → Option (List ℕ)) → Option (List ℕ) → ℕ → ModeWhy → Type 0
-IsBadMode told contents file line why = IsRefusedBy Refuses told contents file (refused_at why line)
+abbrev pub IsBadMode : Seen → Option (List ℕ) → ℕ → ModeWhy → Type 0
+IsBadMode seen file line why = IsRefusedBy Refuses seen file (refused_at why line)

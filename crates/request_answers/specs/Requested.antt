@@ -1,6 +1,7 @@
 -- What the words ask for, and the files that it is read from.
-use Rattle.std.specs.Prelude.{◌<◌, ◌≤◌, ℕ, Bool, true, List, [], ◌++◌, codes, decimal, Option, Some, None}
+use Rattle.std.specs.Prelude.{◌<◌, ◌≤◌, ℕ, true, List, [], ◌++◌, codes, decimal, Option, Some, None}
 use Rattle.std.specs.Option.{option_map_or}
+use Rattle.outside.specs.Seen.{Seen}
 use Rattle.cli_words.specs.Requests.{Request, prove, by_schedule, refutation, generated, models, sides, asked_by}
 use Rattle.problem_gen.specs.Chain.{text}
 
@@ -31,23 +32,10 @@ schedule_file (generated n) = None
 schedule_file (models upto p) = None
 schedule_file (sides p) = None
 
--- whether the contents of the problem's files are told: those of a generated problem always are
-abbrev pub told_of : Bool → Request → Bool
-told_of told (prove p mode nodes) = told
-told_of told (by_schedule file p) = told
-told_of told (refutation cuts text p) = told
-told_of told (generated n) = true
-told_of told (models upto p) = told
-told_of told (sides p) = told
-
--- the contents of the problem's files: a generated problem is its text, under each name
-abbrev pub contents_of : (List ℕ → Option (List ℕ)) → Request → List ℕ → Option (List ℕ)
-contents_of contents (prove p mode nodes) = contents
-contents_of contents (by_schedule file p) = contents
-contents_of contents (refutation cuts text p) = contents
-contents_of contents (generated n) = λ file. Some (text n)
-contents_of contents (models upto p) = contents
-contents_of contents (sides p) = contents
+-- what is known of the files of the problem: those of a generated problem tell its text, under each name
+abbrev pub seen_of : Seen → Request → Seen
+seen_of seen (generated n) = record { tells = true; contents = λ file. Some (text n) }
+seen_of seen r = seen
 
 -- the name by which a report calls the problem, or none where the words ask for nothing
 abbrev pub asked_name : List (List ℕ) → List ℕ

@@ -1,5 +1,6 @@
 -- The schedule that a problem is proved by.
-use Rattle.std.specs.Prelude.{ℕ, Bool, List, [], Option}
+use Rattle.std.specs.Prelude.{ℕ, List, [], Option}
+use Rattle.outside.specs.Seen.{Seen}
 use Rattle.mode_schedule.specs.declared.Block.{Block}
 use Rattle.mode_schedule.specs.declared.refused.ScheduleRefused.{ScheduleRefused}
 use Rattle.mode_schedule.specs.declared.refused.ScheduleRefused.TheVariants as refusal
@@ -10,8 +11,8 @@ use Rattle.szs_report.specs.declared.outcome.ScheduleWhy.TheVariants.{UnknownKey
 use Rattle.request_answers.specs.NamedFiles.{IsStatedBy, IsRefusedBy}
 
 -- the blocks that a file states, or none where no file is named
-abbrev pub IsScheduleBy : Bool → (List ℕ → Option (List ℕ)) → Option (List ℕ) → List Block → Type 0
-IsScheduleBy told contents file blocks = IsStatedBy StatesBlocks [] told contents file blocks
+abbrev pub IsScheduleBy : Seen → Option (List ℕ) → List Block → Type 0
+IsScheduleBy seen file blocks = IsStatedBy StatesBlocks [] seen file blocks
 
 -- the refusal of a schedule's line, for a cause
 abbrev pub refused_schedule_at : ScheduleWhy → ℕ → ScheduleRefused
@@ -23,5 +24,5 @@ refused_schedule_at NoSlice line = refusal.NoSlice line
 refused_schedule_at TooManyBlocks line = refusal.TooManyBlocks line
 
 -- a file is named, and this line of it is the first bad one, for this cause
-abbrev pub IsBadSchedule : Bool → (List ℕ → Option (List ℕ)) → Option (List ℕ) → ℕ → ScheduleWhy → Type 0
-IsBadSchedule told contents file line why = IsRefusedBy RefusesBlocks told contents file (refused_schedule_at why line)
+abbrev pub IsBadSchedule : Seen → Option (List ℕ) → ℕ → ScheduleWhy → Type 0
+IsBadSchedule seen file line why = IsRefusedBy RefusesBlocks seen file (refused_schedule_at why line)

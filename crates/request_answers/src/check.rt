@@ -94,13 +94,12 @@ pub(crate) fn check_file<F: Files>(
     cuts: Cuts,
 ) -> Answer
     requires { IsTyped problem.now }
-    ensures answers { AnswersText cuts (F.tells files.old) (F.contents files.old) name.now problem.now result }
+    ensures answers { AnswersText cuts (F.seen files.old) name.now problem.now result }
     ensures fault { (own : List ℕ) → result ≡ Answer.ReadFault (Check own) → Rose (F.faults files.old name.now) (F.faults files.new name.now) }
     ensures quiet { IsNoReadFault result → (other : List ℕ) → F.faults files.new other ≡ F.faults files.old other }
 
     ensures later { (other : List ℕ) → F.faults files.old other ≤ F.faults files.new other }
-    ensures same { F.contents files.new ≡ F.contents files.old }
-    ensures telling { F.tells files.new ≡ F.tells files.old }
+    ensures same { F.seen files.new ≡ F.seen files.old }
 {
     // The name is copied before the file is read, so that a fault is answered where memory is short.
     let Ok(own) = Bytes::from_slice(alloc, name.as_bytes()) else {

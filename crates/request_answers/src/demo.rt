@@ -1,6 +1,7 @@
 //! Generated problems: each is made, proved, and its report read back and checked, all in memory.
 
-ghost use Rattle.std.specs.Prelude.{◌≡◌, ◌≤◌, ◌<◌, ◌++◌, ℕ, Bool, true, false, List, Option, codes, decimal, string_bytes, IfOk, None};
+ghost use Rattle.std.specs.Prelude.{◌≡◌, ◌≤◌, ◌<◌, ◌++◌, true, false, codes, decimal, string_bytes, IfOk, None};
+ghost use Rattle.outside.specs.Seen.{Seen};
 ghost use Rattle.refute_text.specs.Reading.{is_one_line};
 ghost use Rattle.problem_gen.specs.Chain.{text};
 ghost use Rattle.cli_words.specs.Requests.{generated};
@@ -134,7 +135,7 @@ pub(crate) fn demo(alloc: Global, n: u32, name: &str) -> Answer
     requires some { 0 < n }
     requires limit { n ≤ 1000 }
     requires named { name.now ≡ codes "demo " ++ decimal n }
-    ensures answers { (told : Bool) (contents : List ℕ → Option (List ℕ)) → AnswersRequest (generated n) told contents result }
+    ensures answers { (seen : Seen) → AnswersRequest (generated n) seen result }
     ensures quiet { IsNoReadFault result }
 {
     let Ok(bytes) = demo_text(alloc, n) else {

@@ -42,16 +42,15 @@ fn mode_answer(refused: ModeRefused) -> Answer
 
 /// The mode that the file of a name states, or what is answered in its place.
 fn read_mode_file<F: Files>(alloc: Global, files: &mut F, name: &str) -> Result<Mode, Answer>
-    ensures stated { IfOk result (IsModeBy (F.tells files.old) (F.contents files.old) (Some name.now)) }
+    ensures stated { IfOk result (IsModeBy (F.seen files.old) (Some name.now)) }
     ensures in_range { IfOk result IsInRange }
-    ensures unread { IfErr result (IsUnreadMode (F.tells files.old) (F.contents files.old) name.now) }
+    ensures unread { IfErr result (IsUnreadMode (F.seen files.old) name.now) }
     ensures fault { (own : List ℕ) → IsErrOf result (answer.ReadFault (named.Mode own)) → Rose (F.faults files.old name.now) (F.faults files.new name.now) }
     ensures quiet { OnOk result ((other : List ℕ) → F.faults files.new other ≡ F.faults files.old other) }
     ensures quiet_unread { IfErr result (λ a. IsNoReadFault a → (other : List ℕ) → F.faults files.new other ≡ F.faults files.old other) }
 
     ensures later { (other : List ℕ) → F.faults files.old other ≤ F.faults files.new other }
-    ensures same { F.contents files.new ≡ F.contents files.old }
-    ensures telling { F.tells files.new ≡ F.tells files.old }
+    ensures same { F.seen files.new ≡ F.seen files.old }
 {
     // The name is copied before the file is read, so that a fault is answered where memory is short.
     let Ok(own) = Bytes::from_slice(alloc, name.as_bytes()) else {
@@ -75,16 +74,15 @@ pub(crate) fn mode_by<F: Files>(
     files: &mut F,
     file: Option<&str>,
 ) -> Result<Mode, Answer>
-    ensures stated { IfOk result (IsModeBy (F.tells files.old) (F.contents files.old) (option_map (λ f. f.now) file.entry)) }
+    ensures stated { IfOk result (IsModeBy (F.seen files.old) (option_map (λ f. f.now) file.entry)) }
     ensures in_range { IfOk result IsInRange }
-    ensures unread { IfErr result (IsUnaskedMode (F.tells files.old) (F.contents files.old) (option_map (λ f. f.now) file.entry)) }
+    ensures unread { IfErr result (IsUnaskedMode (F.seen files.old) (option_map (λ f. f.now) file.entry)) }
     ensures fault { (own : List ℕ) → IsErrOf result (answer.ReadFault (named.Mode own)) → Rose (F.faults files.old own) (F.faults files.new own) }
     ensures quiet { OnOk result ((other : List ℕ) → F.faults files.new other ≡ F.faults files.old other) }
     ensures quiet_unread { IfErr result (λ a. IsNoReadFault a → (other : List ℕ) → F.faults files.new other ≡ F.faults files.old other) }
 
     ensures later { (other : List ℕ) → F.faults files.old other ≤ F.faults files.new other }
-    ensures same { F.contents files.new ≡ F.contents files.old }
-    ensures telling { F.tells files.new ≡ F.tells files.old }
+    ensures same { F.seen files.new ≡ F.seen files.old }
 {
     match file {
         None => Ok(Mode::standard()),

@@ -45,14 +45,13 @@ fn prove_by<F: Files>(
     nodes: Option<u32>,
 ) -> Answer
     requires range { IsInRange mode.now }
-    ensures answers { IsFilesAnswer (IsSolved nodes mode.now) problem.now (F.tells files.old) (F.contents files.old) result }
+    ensures answers { IsFilesAnswer (IsSolved nodes mode.now) problem.now (F.seen files.old) result }
     ensures fault { (k : ℕ) (names : List (List ℕ)) → result ≡ Answer.ReadFault (Part k names)
-        → IsFaultIn problem.now (F.tells files.old) (F.contents files.old) (F.faults files.old) (F.faults files.new) k }
+        → IsFaultIn problem.now (F.seen files.old) (F.faults files.old) (F.faults files.new) k }
     ensures quiet { IsNoReadFault result → (other : List ℕ) → F.faults files.new other ≡ F.faults files.old other }
 
     ensures later { (other : List ℕ) → F.faults files.old other ≤ F.faults files.new other }
-    ensures same { F.contents files.new ≡ F.contents files.old }
-    ensures telling { F.tells files.new ≡ F.tells files.old }
+    ensures same { F.seen files.new ≡ F.seen files.old }
 {
     match read_problem(alloc, files, problem) {
         Ok(stated) => solve(alloc, &stated, mode, nodes),
@@ -68,15 +67,14 @@ fn prove<F: Files>(
     mode: Option<&str>,
     nodes: Option<u32>,
 ) -> Answer
-    ensures answers { AnswersRequest (prove problem.now (option_map (λ f. f.now) mode.entry) nodes) (F.tells files.old) (F.contents files.old) result }
+    ensures answers { AnswersRequest (prove problem.now (option_map (λ f. f.now) mode.entry) nodes) (F.seen files.old) result }
     ensures fault { (k : ℕ) (names : List (List ℕ)) → result ≡ Answer.ReadFault (Part k names)
-        → IsFaultIn problem.now (F.tells files.old) (F.contents files.old) (F.faults files.old) (F.faults files.new) k }
+        → IsFaultIn problem.now (F.seen files.old) (F.faults files.old) (F.faults files.new) k }
     ensures mode_fault { (own : List ℕ) → result ≡ Answer.ReadFault (named.Mode own) → Rose (F.faults files.old own) (F.faults files.new own) }
     ensures quiet { IsNoReadFault result → (other : List ℕ) → F.faults files.new other ≡ F.faults files.old other }
 
     ensures later { (other : List ℕ) → F.faults files.old other ≤ F.faults files.new other }
-    ensures same { F.contents files.new ≡ F.contents files.old }
-    ensures telling { F.tells files.new ≡ F.tells files.old }
+    ensures same { F.seen files.new ≡ F.seen files.old }
 {
     match mode_by(alloc, files, mode) {
         Ok(mode) => prove_by(alloc, files, problem, &mode, nodes),
@@ -89,14 +87,13 @@ fn prove_in_turns<F: Files>(alloc: Global, files: &mut F, problem: &str, blocks:
     requires few { length blocks.now ≤ most_blocks }
     requires slices { All (λ b. (0 < b.slice) × (b.slice ≤ greatest_slice)) blocks.now }
     requires in_range { All (λ b. IsInRange b.mode) blocks.now }
-    ensures answers { IsFilesAnswer (IsSolvedInTurns blocks.now) problem.now (F.tells files.old) (F.contents files.old) result }
+    ensures answers { IsFilesAnswer (IsSolvedInTurns blocks.now) problem.now (F.seen files.old) result }
     ensures fault { (k : ℕ) (names : List (List ℕ)) → result ≡ Answer.ReadFault (Part k names)
-        → IsFaultIn problem.now (F.tells files.old) (F.contents files.old) (F.faults files.old) (F.faults files.new) k }
+        → IsFaultIn problem.now (F.seen files.old) (F.faults files.old) (F.faults files.new) k }
     ensures quiet { IsNoReadFault result → (other : List ℕ) → F.faults files.new other ≡ F.faults files.old other }
 
     ensures later { (other : List ℕ) → F.faults files.old other ≤ F.faults files.new other }
-    ensures same { F.contents files.new ≡ F.contents files.old }
-    ensures telling { F.tells files.new ≡ F.tells files.old }
+    ensures same { F.seen files.new ≡ F.seen files.old }
 {
     match read_problem(alloc, files, problem) {
         Ok(stated) => solve_in_turns(alloc, &stated, blocks),
@@ -111,15 +108,14 @@ fn prove_by_schedule<F: Files>(
     schedule: &str,
     problem: &str,
 ) -> Answer
-    ensures answers { AnswersRequest (by_schedule schedule.now problem.now) (F.tells files.old) (F.contents files.old) result }
+    ensures answers { AnswersRequest (by_schedule schedule.now problem.now) (F.seen files.old) result }
     ensures fault { (k : ℕ) (names : List (List ℕ)) → result ≡ Answer.ReadFault (Part k names)
-        → IsFaultIn problem.now (F.tells files.old) (F.contents files.old) (F.faults files.old) (F.faults files.new) k }
+        → IsFaultIn problem.now (F.seen files.old) (F.faults files.old) (F.faults files.new) k }
     ensures schedule_fault { (own : List ℕ) → result ≡ Answer.ReadFault (named.Schedule own) → Rose (F.faults files.old own) (F.faults files.new own) }
     ensures quiet { IsNoReadFault result → (other : List ℕ) → F.faults files.new other ≡ F.faults files.old other }
 
     ensures later { (other : List ℕ) → F.faults files.old other ≤ F.faults files.new other }
-    ensures same { F.contents files.new ≡ F.contents files.old }
-    ensures telling { F.tells files.new ≡ F.tells files.old }
+    ensures same { F.seen files.new ≡ F.seen files.old }
 {
     match read_schedule_file(alloc, files, schedule) {
         Ok(blocks) => prove_in_turns(alloc, files, problem, blocks.as_slice()),
@@ -129,16 +125,15 @@ fn prove_by_schedule<F: Files>(
 
 /// The answer where the text in a file is to be checked against the problem of a name.
 fn check<F: Files>(alloc: Global, files: &mut F, text: &str, problem: &str, cuts: Cuts) -> Answer
-    ensures answers { IsFilesAnswer (AnswersText cuts (F.tells files.old) (F.contents files.old) text.now) problem.now (F.tells files.old) (F.contents files.old) result }
+    ensures answers { IsFilesAnswer (AnswersText cuts (F.seen files.old) text.now) problem.now (F.seen files.old) result }
     ensures fault { (k : ℕ) (names : List (List ℕ)) → result ≡ Answer.ReadFault (Part k names)
-        → IsFaultIn problem.now (F.tells files.old) (F.contents files.old) (F.faults files.old) (F.faults files.new) k }
+        → IsFaultIn problem.now (F.seen files.old) (F.faults files.old) (F.faults files.new) k }
     ensures text_fault { (own : List ℕ) → result ≡ Answer.ReadFault (Check own)
-        → IsTextFault (refutation cuts text.now problem.now) (F.tells files.old) (F.contents files.old) (F.faults files.old) (F.faults files.new) }
+        → IsTextFault (refutation cuts text.now problem.now) (F.seen files.old) (F.faults files.old) (F.faults files.new) }
     ensures quiet { IsNoReadFault result → (other : List ℕ) → F.faults files.new other ≡ F.faults files.old other }
 
     ensures later { (other : List ℕ) → F.faults files.old other ≤ F.faults files.new other }
-    ensures same { F.contents files.new ≡ F.contents files.old }
-    ensures telling { F.tells files.new ≡ F.tells files.old }
+    ensures same { F.seen files.new ≡ F.seen files.old }
 {
     match read_problem(alloc, files, problem) {
         Ok(stated) => check_file(alloc, files, &stated, text, cuts),
@@ -150,14 +145,13 @@ fn check<F: Files>(alloc: Global, files: &mut F, text: &str, problem: &str, cuts
 fn look_in<F: Files>(alloc: Global, files: &mut F, upto: u32, problem: &str) -> Answer
     requires some { 0 < upto }
     requires few { upto ≤ 8 }
-    ensures answers { IsFilesAnswer (AnswersModels upto) problem.now (F.tells files.old) (F.contents files.old) result }
+    ensures answers { IsFilesAnswer (AnswersModels upto) problem.now (F.seen files.old) result }
     ensures fault { (k : ℕ) (names : List (List ℕ)) → result ≡ Answer.ReadFault (Part k names)
-        → IsFaultIn problem.now (F.tells files.old) (F.contents files.old) (F.faults files.old) (F.faults files.new) k }
+        → IsFaultIn problem.now (F.seen files.old) (F.faults files.old) (F.faults files.new) k }
     ensures quiet { IsNoReadFault result → (other : List ℕ) → F.faults files.new other ≡ F.faults files.old other }
 
     ensures later { (other : List ℕ) → F.faults files.old other ≤ F.faults files.new other }
-    ensures same { F.contents files.new ≡ F.contents files.old }
-    ensures telling { F.tells files.new ≡ F.tells files.old }
+    ensures same { F.seen files.new ≡ F.seen files.old }
 {
     match read_problem(alloc, files, problem) {
         Ok(stated) => look(alloc, &stated, upto),
@@ -167,14 +161,13 @@ fn look_in<F: Files>(alloc: Global, files: &mut F, upto: u32, problem: &str) -> 
 
 /// The answer where the two sides of the conjecture of the problem of a name are to be compared.
 fn compare_in<F: Files>(alloc: Global, files: &mut F, problem: &str) -> Answer
-    ensures answers { IsFilesAnswer AnswersSides problem.now (F.tells files.old) (F.contents files.old) result }
+    ensures answers { IsFilesAnswer AnswersSides problem.now (F.seen files.old) result }
     ensures fault { (k : ℕ) (names : List (List ℕ)) → result ≡ Answer.ReadFault (Part k names)
-        → IsFaultIn problem.now (F.tells files.old) (F.contents files.old) (F.faults files.old) (F.faults files.new) k }
+        → IsFaultIn problem.now (F.seen files.old) (F.faults files.old) (F.faults files.new) k }
     ensures quiet { IsNoReadFault result → (other : List ℕ) → F.faults files.new other ≡ F.faults files.old other }
 
     ensures later { (other : List ℕ) → F.faults files.old other ≤ F.faults files.new other }
-    ensures same { F.contents files.new ≡ F.contents files.old }
-    ensures telling { F.tells files.new ≡ F.tells files.old }
+    ensures same { F.seen files.new ≡ F.seen files.old }
 {
     match read_problem(alloc, files, problem) {
         Ok(stated) => compare(alloc, &stated),
@@ -202,12 +195,11 @@ pub fn name_of(alloc: Global, asked: &Asked) -> Result<String, AllocError>
 pub fn answer<F: Files>(alloc: Global, files: &mut F, asked: &Asked, name: &str) -> Answer
     requires named { name.now ≡ problem_name (the_request asked.now) }
     requires in_range { IsRequestInRange (the_request asked.now) }
-    ensures answers { AnswersRequest (the_request asked.now) (F.tells files.old) (F.contents files.old) result }
-    ensures cause { HasCauseOf (the_request asked.now) (F.tells files.old) (F.contents files.old) (F.faults files.old) (F.faults files.new) (outcome_of result) }
+    ensures answers { AnswersRequest (the_request asked.now) (F.seen files.old) result }
+    ensures cause { HasCauseOf (the_request asked.now) (F.seen files.old) (F.faults files.old) (F.faults files.new) (outcome_of result) }
 
     ensures later { (other : List ℕ) → F.faults files.old other ≤ F.faults files.new other }
-    ensures same { F.contents files.new ≡ F.contents files.old }
-    ensures telling { F.tells files.new ≡ F.tells files.old }
+    ensures same { F.seen files.new ≡ F.seen files.old }
 {
     match asked {
         Asked::Prove {

@@ -46,18 +46,17 @@ pub(crate) fn read_schedule_file<F: Files>(
     files: &mut F,
     name: &str,
 ) -> Result<Vec<Block>, Answer>
-    ensures stated { IfOk result (λ blocks. IsScheduleBy (F.tells files.old) (F.contents files.old) (Some name.now) blocks.items) }
+    ensures stated { IfOk result (λ blocks. IsScheduleBy (F.seen files.old) (Some name.now) blocks.items) }
     ensures few { IfOk result (λ blocks. length blocks.items ≤ most_blocks) }
     ensures slices { IfOk result (λ blocks. All (λ b. (0 < b.slice) × (b.slice ≤ greatest_slice)) blocks.items) }
     ensures in_range { IfOk result (λ blocks. All (λ b. IsInRange b.mode) blocks.items) }
-    ensures unread { IfErr result (IsUnreadSchedule (F.tells files.old) (F.contents files.old) name.now) }
+    ensures unread { IfErr result (IsUnreadSchedule (F.seen files.old) name.now) }
     ensures fault { (own : List ℕ) → IsErrOf result (answer.ReadFault (named.Schedule own)) → Rose (F.faults files.old name.now) (F.faults files.new name.now) }
     ensures quiet { OnOk result ((other : List ℕ) → F.faults files.new other ≡ F.faults files.old other) }
     ensures quiet_unread { IfErr result (λ a. IsNoReadFault a → (other : List ℕ) → F.faults files.new other ≡ F.faults files.old other) }
 
     ensures later { (other : List ℕ) → F.faults files.old other ≤ F.faults files.new other }
-    ensures same { F.contents files.new ≡ F.contents files.old }
-    ensures telling { F.tells files.new ≡ F.tells files.old }
+    ensures same { F.seen files.new ≡ F.seen files.old }
 {
     // The name is copied before the file is read, so that a fault is answered where memory is short.
     let Ok(own) = Bytes::from_slice(alloc, name.as_bytes()) else {

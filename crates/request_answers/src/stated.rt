@@ -85,17 +85,16 @@ pub(crate) fn read_problem<F: Files>(
     files: &mut F,
     name: &str,
 ) -> Result<Problem, Answer>
-    ensures stated { IfOk result (λ p. (names : List (List ℕ)) × OfFiles name.now (F.tells files.old) (F.contents files.old) names (Statements p)) }
+    ensures stated { IfOk result (λ p. (names : List (List ℕ)) × OfFiles name.now (F.seen files.old) names (Statements p)) }
     ensures texts { IfOk result (λ p. HasTexts p) }
-    ensures unread { IfErr result (IsUnread name.now (F.tells files.old) (F.contents files.old)) }
+    ensures unread { IfErr result (IsUnread name.now (F.seen files.old)) }
     ensures fault { (k : ℕ) (names : List (List ℕ)) → IsErrOf result (answer.ReadFault (Part k names))
-        → IsFaultIn name.now (F.tells files.old) (F.contents files.old) (F.faults files.old) (F.faults files.new) k }
+        → IsFaultIn name.now (F.seen files.old) (F.faults files.old) (F.faults files.new) k }
     ensures quiet { OnOk result ((other : List ℕ) → F.faults files.new other ≡ F.faults files.old other) }
     ensures quiet_unread { IfErr result (λ a. IsNoReadFault a → (other : List ℕ) → F.faults files.new other ≡ F.faults files.old other) }
 
     ensures later { (other : List ℕ) → F.faults files.old other ≤ F.faults files.new other }
-    ensures same { F.contents files.new ≡ F.contents files.old }
-    ensures telling { F.tells files.new ≡ F.tells files.old }
+    ensures same { F.seen files.new ≡ F.seen files.old }
 {
     let mut names = FileNames::new(alloc);
     match gather(alloc, files, &mut names, name) {

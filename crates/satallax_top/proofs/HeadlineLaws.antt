@@ -1,7 +1,8 @@
 -- What a call answers and writes has the meaning that it claims.
-use Rattle.std.proofs.Common.{◌≡◌, ◌+◌, ℕ, zero, suc, Bool, true, IsTrue, List, [], ◌∷◌, ◌++◌, slice_get, Option, Some, None, Result, Ok, Err, refl, sym, ap, ap₂, subst, ◌∙◌}
+use Rattle.std.proofs.Common.{◌≡◌, ◌+◌, ℕ, zero, suc, IsTrue, List, [], ◌∷◌, ◌++◌, slice_get, Option, Some, None, Result, Ok, Err, refl, sym, ap, ap₂, subst, ◌∙◌}
 use Rattle.std.proofs.lemmas.Option.{same_Some}
 use Rattle.outside.specs.Causes.{Rose}
+use Rattle.outside.specs.Seen.{Seen}
 use Rattle.stt_core.specs.PlainProblem.{PlainProblem}
 use Rattle.stt_core.specs.TypedProblem.{IsTyped}
 use Rattle.stt_core.specs.Declarations.{scope_of}
@@ -39,7 +40,7 @@ use Rattle.szs_report.specs.declared.answer.NamedFile.TheVariants.{Part, Check}
 use Rattle.szs_report.specs.declared.answer.NamedFile.TheVariants as named
 use Rattle.szs_report.specs.declared.outcome.Outcome.{Outcome}
 use Rattle.szs_report.specs.declared.outcome.Outcome.TheVariants as ended
-use Rattle.request_answers.specs.Requested.{asked_name, problem_name, told_of, contents_of, mode_file, schedule_file}
+use Rattle.request_answers.specs.Requested.{asked_name, problem_name, seen_of, mode_file, schedule_file}
 use Rattle.request_answers.specs.Files.{OfFiles, OfAsked, Statements}
 use Rattle.request_answers.specs.Modes.{IsModeBy}
 use Rattle.request_answers.specs.Schedules.{IsScheduleBy}
@@ -92,20 +93,20 @@ ending_answered Answers names a (done ss) other h = go (problem_of ss) refl h
     go (Err ill) e k = absurd (other (subst IsRefusal (sym k) tt))
 
 -- so are files
-pub record FilesAnswered (r : Request) (told : Bool) (contents : List ℕ → Option (List ℕ)) (a : Answer) : Type 0 where
+pub record FilesAnswered (r : Request) (seen : Seen) (a : Answer) : Type 0 where
   pub mode : Mode
-  pub is_mode : IsModeBy told contents (mode_file r) mode
+  pub is_mode : IsModeBy seen (mode_file r) mode
   pub blocks : List Block
-  pub are_blocks : IsScheduleBy told contents (schedule_file r) blocks
+  pub are_blocks : IsScheduleBy seen (schedule_file r) blocks
   pub names : List (List ℕ)
   pub problem : PlainProblem
-  pub stated : OfFiles (problem_name r) (told_of told r) (contents_of contents r) names (Statements problem)
+  pub stated : OfFiles (problem_name r) (seen_of seen r) names (Statements problem)
   pub typed : IsTyped problem
-  pub answered : AnswersProblem told contents r mode blocks problem a
+  pub answered : AnswersProblem seen r mode blocks problem a
 
-pub files_answered : (r : Request) (told : Bool) (contents : List ℕ → Option (List ℕ)) (a : Answer) → (IsRefusal a → ⊥) → AnswersFiles r told contents a → FilesAnswered r told contents a
-files_answered r told contents a other h =
-    let e = ending_answered (AnswersProblem told contents r h.mode h.blocks) h.names a h.files.ending other h.files.holds in
+pub files_answered : (r : Request) (seen : Seen) (a : Answer) → (IsRefusal a → ⊥) → AnswersFiles r seen a → FilesAnswered r seen a
+files_answered r seen a other h =
+    let e = ending_answered (AnswersProblem seen r h.mode h.blocks) h.names a h.files.ending other h.files.holds in
     record {
       mode = h.mode;
       is_mode = h.is_mode;
@@ -132,33 +133,33 @@ proved_form (Proved claim n i tree text) h = record { claim = claim; commands = 
 proved_form a h = absurd h
 
 -- what such an answer shows
-pub record ProvedAnswer (words : List (List ℕ)) (told : Bool) (contents : List ℕ → Option (List ℕ)) (a : Answer) : Type 0 where
+pub record ProvedAnswer (words : List (List ℕ)) (seen : Seen) (a : Answer) : Type 0 where
   pub request : Request
   pub requested : asked_by words ≡ Some request
   pub names : List (List ℕ)
   pub problem : PlainProblem
-  pub stated : OfAsked (asked_by words) told contents names (Statements problem)
+  pub stated : OfAsked (asked_by words) seen names (Statements problem)
   pub typed : IsTyped problem
   pub mode : Mode
   pub nodes : Option ℕ
   pub commands : ℕ
   pub reported : ℕ
   pub number : Option ℕ
-  pub asked : IsReportedSo words told contents problem mode nodes commands reported number
+  pub asked : IsReportedSo words seen problem mode nodes commands reported number
   pub tree : TreeReport
   pub text : List ℕ
   pub proof : IsProofOf nodes mode problem commands tree text
   pub is : a ≡ Proved (claim_of problem) reported number tree text
 
 -- files that are answered with a proof show it
-module _ (words : List (List ℕ)) (told : Bool) (contents : List ℕ → Option (List ℕ)) (claim : Claim) (n : ℕ) (i : Option ℕ) (tree : TreeReport) (text : List ℕ) where
-  proved_files : (p : List ℕ) (file : Option (List ℕ)) (nodes : Option ℕ) → asked_by words ≡ Some (prove p file nodes) → FilesAnswered (prove p file nodes) told contents (Proved claim n i tree text) → ProvedAnswer words told contents (Proved claim n i tree text)
+module _ (words : List (List ℕ)) (seen : Seen) (claim : Claim) (n : ℕ) (i : Option ℕ) (tree : TreeReport) (text : List ℕ) where
+  proved_files : (p : List ℕ) (file : Option (List ℕ)) (nodes : Option ℕ) → asked_by words ≡ Some (prove p file nodes) → FilesAnswered (prove p file nodes) seen (Proved claim n i tree text) → ProvedAnswer words seen (Proved claim n i tree text)
   proved_files p file nodes asked f = record {
     request = prove p file nodes;
     requested = asked;
     names = f.names;
     problem = f.problem;
-    stated = subst (λ x. OfAsked x told contents f.names (Statements f.problem)) (sym asked) f.stated;
+    stated = subst (λ x. OfAsked x seen f.names (Statements f.problem)) (sym asked) f.stated;
     typed = f.typed;
     mode = f.mode;
     nodes = nodes;
@@ -173,7 +174,7 @@ module _ (words : List (List ℕ)) (told : Bool) (contents : List ℕ → Option
   }
 
   -- so do those of a schedule
-  proved_in_turns : (file p : List ℕ) → asked_by words ≡ Some (by_schedule file p) → FilesAnswered (by_schedule file p) told contents (Proved claim n i tree text) → ProvedAnswer words told contents (Proved claim n i tree text)
+  proved_in_turns : (file p : List ℕ) → asked_by words ≡ Some (by_schedule file p) → FilesAnswered (by_schedule file p) seen (Proved claim n i tree text) → ProvedAnswer words seen (Proved claim n i tree text)
   proved_in_turns file p asked f =
       let q = f.answered.2 in
       record {
@@ -181,7 +182,7 @@ module _ (words : List (List ℕ)) (told : Bool) (contents : List ℕ → Option
         requested = asked;
         names = f.names;
         problem = f.problem;
-        stated = subst (λ x. OfAsked x told contents f.names (Statements f.problem)) (sym asked) f.stated;
+        stated = subst (λ x. OfAsked x seen f.names (Statements f.problem)) (sym asked) f.stated;
         typed = f.typed;
         mode = q.block.mode;
         nodes = None;
@@ -197,30 +198,30 @@ module _ (words : List (List ℕ)) (told : Bool) (contents : List ℕ → Option
 
 -- Where a proof is answered, a problem is to be proved, and files are answered so. The conclusion is a variable, so that no record is
 -- compared field by field.
-module _ (R : Type 0) (told : Bool) (contents : List ℕ → Option (List ℕ)) (claim : Claim) (n : ℕ) (i : Option ℕ) (tree : TreeReport) (text : List ℕ) where
+module _ (R : Type 0) (seen : Seen) (claim : Claim) (n : ℕ) (i : Option ℕ) (tree : TreeReport) (text : List ℕ) where
   abbrev proof_told : Answer
   proof_told = Proved claim n i tree text
 
-  proved_asked : (o : Option Request) → AnswersAsked o told contents proof_told → ((p : List ℕ) (file : Option (List ℕ)) (nodes : Option ℕ) → o ≡ Some (prove p file nodes) → AnswersFiles (prove p file nodes) told contents proof_told → R)
-      → ((file p : List ℕ) → o ≡ Some (by_schedule file p) → AnswersFiles (by_schedule file p) told contents proof_told → R) → R
+  proved_asked : (o : Option Request) → AnswersAsked o seen proof_told → ((p : List ℕ) (file : Option (List ℕ)) (nodes : Option ℕ) → o ≡ Some (prove p file nodes) → AnswersFiles (prove p file nodes) seen proof_told → R)
+      → ((file p : List ℕ) → o ≡ Some (by_schedule file p) → AnswersFiles (by_schedule file p) seen proof_told → R) → R
   proved_asked None h k l = cc
-  proved_asked (Some (refutation cuts file p)) h k l = let f = files_answered (refutation cuts file p) told contents proof_told (λ x. x) h in absurd f.answered.holds
-  proved_asked (Some (generated j)) h k l = let f = files_answered (generated j) told contents proof_told (λ x. x) h in absurd f.answered
-  proved_asked (Some (models j p)) h k l = let f = files_answered (models j p) told contents proof_told (λ x. x) h in absurd f.answered
-  proved_asked (Some (sides p)) h k l = let f = files_answered (sides p) told contents proof_told (λ x. x) h in absurd f.answered
+  proved_asked (Some (refutation cuts file p)) h k l = let f = files_answered (refutation cuts file p) seen proof_told (λ x. x) h in absurd f.answered.holds
+  proved_asked (Some (generated j)) h k l = let f = files_answered (generated j) seen proof_told (λ x. x) h in absurd f.answered
+  proved_asked (Some (models j p)) h k l = let f = files_answered (models j p) seen proof_told (λ x. x) h in absurd f.answered
+  proved_asked (Some (sides p)) h k l = let f = files_answered (sides p) seen proof_told (λ x. x) h in absurd f.answered
   proved_asked (Some (prove p file nodes)) h k l = k p file nodes refl h
   proved_asked (Some (by_schedule file p)) h k l = l file p refl h
 
-proved_answer : (words : List (List ℕ)) (told : Bool) (contents : List ℕ → Option (List ℕ)) (a : Answer) → IsAnswer words told contents a → IsProvedOutcome (outcome_of a) → ProvedAnswer words told contents a
-proved_answer words told contents a answer h =
+proved_answer : (words : List (List ℕ)) (seen : Seen) (a : Answer) → IsAnswer words seen a → IsProvedOutcome (outcome_of a) → ProvedAnswer words seen a
+proved_answer words seen a answer h =
     let q = proved_form a h in
     let proof : Answer = Proved q.claim q.commands q.mode q.tree q.text in
-    subst (ProvedAnswer words told contents) (sym q.is)
-    (proved_asked (ProvedAnswer words told contents proof) told contents q.claim q.commands q.mode q.tree q.text (asked_by words) (subst (IsAnswer words told contents) q.is answer)
-    (λ (p : List ℕ) (file : Option (List ℕ)) (nodes : Option ℕ) (asked : asked_by words ≡ Some (prove p file nodes)) (k : AnswersFiles (prove p file nodes) told contents proof).
-    proved_files words told contents q.claim q.commands q.mode q.tree q.text p file nodes asked (files_answered (prove p file nodes) told contents proof (λ x. x) k))
-    (λ (file p : List ℕ) (asked : asked_by words ≡ Some (by_schedule file p)) (k : AnswersFiles (by_schedule file p) told contents proof).
-    proved_in_turns words told contents q.claim q.commands q.mode q.tree q.text file p asked (files_answered (by_schedule file p) told contents proof (λ x. x) k)))
+    subst (ProvedAnswer words seen) (sym q.is)
+    (proved_asked (ProvedAnswer words seen proof) seen q.claim q.commands q.mode q.tree q.text (asked_by words) (subst (IsAnswer words seen) q.is answer)
+    (λ (p : List ℕ) (file : Option (List ℕ)) (nodes : Option ℕ) (asked : asked_by words ≡ Some (prove p file nodes)) (k : AnswersFiles (prove p file nodes) seen proof).
+    proved_files words seen q.claim q.commands q.mode q.tree q.text p file nodes asked (files_answered (prove p file nodes) seen proof (λ x. x) k))
+    (λ (file p : List ℕ) (asked : asked_by words ≡ Some (by_schedule file p)) (k : AnswersFiles (by_schedule file p) seen proof).
+    proved_in_turns words seen q.claim q.commands q.mode q.tree q.text file p asked (files_answered (by_schedule file p) seen proof (λ x. x) k)))
 
 -- what a check accepts that forbids cuts, one accepts that allows them
 accepts_any : (cuts : Cuts) (p : PlainProblem) (t : RefutationTree) → Accepts cuts p t → IsAcceptedFor p t
@@ -228,88 +229,88 @@ accepts_any Allowed p t h = h
 accepts_any Forbidden p t h = h.accepted
 
 -- a problem that is stated has no model
-pub record Unmodelled (o : Option Request) (told : Bool) (contents : List ℕ → Option (List ℕ)) : Type 0 where
+pub record Unmodelled (o : Option Request) (seen : Seen) : Type 0 where
   pub names : List (List ℕ)
   pub problem : PlainProblem
-  pub stated : OfAsked o told contents names (Statements problem)
+  pub stated : OfAsked o seen names (Statements problem)
   pub no_model : IsWithoutModel problem
 
-no_model_asked : (o : Option Request) (told : Bool) (contents : List ℕ → Option (List ℕ)) (a : Answer) → AnswersAsked o told contents a → ShowsNoModel (outcome_of a) → Unmodelled o told contents
-no_model_asked None told contents (Proved claim n i tree text) h s = cc
-no_model_asked None told contents (DemoDone claim n) h s = cc
-no_model_asked None told contents Accepted h s = cc
-no_model_asked (Some (prove p file nodes)) told contents (Proved claim n i tree text) h s =
-    let f = files_answered (prove p file nodes) told contents (Proved claim n i tree text) (λ x. x) h in
+no_model_asked : (o : Option Request) (seen : Seen) (a : Answer) → AnswersAsked o seen a → ShowsNoModel (outcome_of a) → Unmodelled o seen
+no_model_asked None seen (Proved claim n i tree text) h s = cc
+no_model_asked None seen (DemoDone claim n) h s = cc
+no_model_asked None seen Accepted h s = cc
+no_model_asked (Some (prove p file nodes)) seen (Proved claim n i tree text) h s =
+    let f = files_answered (prove p file nodes) seen (Proved claim n i tree text) (λ x. x) h in
     record { names = f.names; problem = f.problem; stated = f.stated; no_model = no_model_of f.problem (named_refutation (names_in f.problem) (taken_names f.problem) f.answered.2.refutation) f.typed (proof_accepted nodes f.mode f.problem n tree text f.answered.2) }
-no_model_asked (Some (prove p file nodes)) told contents (DemoDone claim n) h s =
-    let f = files_answered (prove p file nodes) told contents (DemoDone claim n) (λ x. x) h in absurd f.answered
-no_model_asked (Some (prove p file nodes)) told contents Accepted h s =
-    let f = files_answered (prove p file nodes) told contents Accepted (λ x. x) h in absurd f.answered
-no_model_asked (Some (by_schedule file p)) told contents (Proved claim n i tree text) h s =
-    let f = files_answered (by_schedule file p) told contents (Proved claim n i tree text) (λ x. x) h in
+no_model_asked (Some (prove p file nodes)) seen (DemoDone claim n) h s =
+    let f = files_answered (prove p file nodes) seen (DemoDone claim n) (λ x. x) h in absurd f.answered
+no_model_asked (Some (prove p file nodes)) seen Accepted h s =
+    let f = files_answered (prove p file nodes) seen Accepted (λ x. x) h in absurd f.answered
+no_model_asked (Some (by_schedule file p)) seen (Proved claim n i tree text) h s =
+    let f = files_answered (by_schedule file p) seen (Proved claim n i tree text) (λ x. x) h in
     let q = f.answered.2 in
     record { names = f.names; problem = f.problem; stated = f.stated; no_model = no_model_of f.problem (named_refutation (names_in f.problem) (taken_names f.problem) q.proof.refutation) f.typed (proof_accepted None q.block.mode f.problem q.commands Unasked text q.proof) }
-no_model_asked (Some (by_schedule file p)) told contents (DemoDone claim n) h s =
-    let f = files_answered (by_schedule file p) told contents (DemoDone claim n) (λ x. x) h in absurd f.answered
-no_model_asked (Some (by_schedule file p)) told contents Accepted h s =
-    let f = files_answered (by_schedule file p) told contents Accepted (λ x. x) h in absurd f.answered
-no_model_asked (Some (refutation cuts file p)) told contents (Proved claim n i tree text) h s =
-    let f = files_answered (refutation cuts file p) told contents (Proved claim n i tree text) (λ x. x) h in absurd f.answered.holds
-no_model_asked (Some (refutation cuts file p)) told contents (DemoDone claim n) h s =
-    let f = files_answered (refutation cuts file p) told contents (DemoDone claim n) (λ x. x) h in absurd f.answered.holds
-no_model_asked (Some (refutation cuts file p)) told contents Accepted h s =
-    let f = files_answered (refutation cuts file p) told contents Accepted (λ x. x) h in
+no_model_asked (Some (by_schedule file p)) seen (DemoDone claim n) h s =
+    let f = files_answered (by_schedule file p) seen (DemoDone claim n) (λ x. x) h in absurd f.answered
+no_model_asked (Some (by_schedule file p)) seen Accepted h s =
+    let f = files_answered (by_schedule file p) seen Accepted (λ x. x) h in absurd f.answered
+no_model_asked (Some (refutation cuts file p)) seen (Proved claim n i tree text) h s =
+    let f = files_answered (refutation cuts file p) seen (Proved claim n i tree text) (λ x. x) h in absurd f.answered.holds
+no_model_asked (Some (refutation cuts file p)) seen (DemoDone claim n) h s =
+    let f = files_answered (refutation cuts file p) seen (DemoDone claim n) (λ x. x) h in absurd f.answered.holds
+no_model_asked (Some (refutation cuts file p)) seen Accepted h s =
+    let f = files_answered (refutation cuts file p) seen Accepted (λ x. x) h in
     record { names = f.names; problem = f.problem; stated = f.stated; no_model = no_model_of f.problem f.answered.holds.refutation f.typed (accepts_any cuts f.problem f.answered.holds.refutation f.answered.holds.accepted) }
-no_model_asked (Some (generated k)) told contents (Proved claim n i tree text) h s =
-    let f = files_answered (generated k) told contents (Proved claim n i tree text) (λ x. x) h in absurd f.answered
-no_model_asked (Some (generated k)) told contents (DemoDone claim n) h s =
-    let f = files_answered (generated k) told contents (DemoDone claim n) (λ x. x) h in
+no_model_asked (Some (generated k)) seen (Proved claim n i tree text) h s =
+    let f = files_answered (generated k) seen (Proved claim n i tree text) (λ x. x) h in absurd f.answered
+no_model_asked (Some (generated k)) seen (DemoDone claim n) h s =
+    let f = files_answered (generated k) seen (DemoDone claim n) (λ x. x) h in
     let proof = f.answered.2.2 in
     record { names = f.names; problem = f.problem; stated = f.stated; no_model = no_model_of f.problem (named_refutation (names_in f.problem) (taken_names f.problem) proof.refutation) f.typed (proof_accepted None f.mode f.problem n f.answered.0 f.answered.1 proof) }
-no_model_asked (Some (generated k)) told contents Accepted h s =
-    let f = files_answered (generated k) told contents Accepted (λ x. x) h in absurd f.answered
-no_model_asked (Some (models k p)) told contents (Proved claim n i tree text) h s =
-    let f = files_answered (models k p) told contents (Proved claim n i tree text) (λ x. x) h in absurd f.answered
-no_model_asked (Some (models k p)) told contents (DemoDone claim n) h s =
-    let f = files_answered (models k p) told contents (DemoDone claim n) (λ x. x) h in absurd f.answered
-no_model_asked (Some (models k p)) told contents Accepted h s =
-    let f = files_answered (models k p) told contents Accepted (λ x. x) h in absurd f.answered
-no_model_asked (Some (sides p)) told contents (Proved claim n i tree text) h s =
-    let f = files_answered (sides p) told contents (Proved claim n i tree text) (λ x. x) h in absurd f.answered
-no_model_asked (Some (sides p)) told contents (DemoDone claim n) h s =
-    let f = files_answered (sides p) told contents (DemoDone claim n) (λ x. x) h in absurd f.answered
-no_model_asked (Some (sides p)) told contents Accepted h s =
-    let f = files_answered (sides p) told contents Accepted (λ x. x) h in absurd f.answered
-no_model_asked o told contents a h s = absurd s
+no_model_asked (Some (generated k)) seen Accepted h s =
+    let f = files_answered (generated k) seen Accepted (λ x. x) h in absurd f.answered
+no_model_asked (Some (models k p)) seen (Proved claim n i tree text) h s =
+    let f = files_answered (models k p) seen (Proved claim n i tree text) (λ x. x) h in absurd f.answered
+no_model_asked (Some (models k p)) seen (DemoDone claim n) h s =
+    let f = files_answered (models k p) seen (DemoDone claim n) (λ x. x) h in absurd f.answered
+no_model_asked (Some (models k p)) seen Accepted h s =
+    let f = files_answered (models k p) seen Accepted (λ x. x) h in absurd f.answered
+no_model_asked (Some (sides p)) seen (Proved claim n i tree text) h s =
+    let f = files_answered (sides p) seen (Proved claim n i tree text) (λ x. x) h in absurd f.answered
+no_model_asked (Some (sides p)) seen (DemoDone claim n) h s =
+    let f = files_answered (sides p) seen (DemoDone claim n) (λ x. x) h in absurd f.answered
+no_model_asked (Some (sides p)) seen Accepted h s =
+    let f = files_answered (sides p) seen Accepted (λ x. x) h in absurd f.answered
+no_model_asked o seen a h s = absurd s
 
-pub no_model_answer : (words : List (List ℕ)) (told : Bool) (contents : List ℕ → Option (List ℕ)) (o : Outcome) (a : Answer) → IsAnswer words told contents a → o ≡ outcome_of a → ShowsNoModel o → HasNoModel words told contents
-no_model_answer words told contents o a answer is h =
-    let q = no_model_asked (asked_by words) told contents a answer (subst ShowsNoModel is h) in
+pub no_model_answer : (words : List (List ℕ)) (seen : Seen) (o : Outcome) (a : Answer) → IsAnswer words seen a → o ≡ outcome_of a → ShowsNoModel o → HasNoModel words seen
+no_model_answer words seen o a answer is h =
+    let q = no_model_asked (asked_by words) seen a answer (subst ShowsNoModel is h) in
     record { names = q.names; problem = q.problem; stated = q.stated; no_model = q.no_model }
 
 -- a problem that is answered with what its conjecture's sides are was to be answered so
-said_of_sides : (told : Bool) (contents : List ℕ → Option (List ℕ)) (r : Request) (m : Mode) (bs : List Block) (p : PlainProblem) (a : Answer) → IsOfSides (outcome_of a) → AnswersProblem told contents r m bs p a → SaysOfSides (outcome_of a) p
-said_of_sides told contents (prove q file nodes) m bs p Same s h = absurd h
-said_of_sides told contents (prove q file nodes) m bs p Different s h = absurd h
-said_of_sides told contents (prove q file nodes) m bs p NoEquation s h = absurd h
-said_of_sides told contents (by_schedule file q) m bs p Same s h = absurd h
-said_of_sides told contents (by_schedule file q) m bs p Different s h = absurd h
-said_of_sides told contents (by_schedule file q) m bs p NoEquation s h = absurd h
-said_of_sides told contents (refutation cuts file q) m bs p Same s h = absurd h.holds
-said_of_sides told contents (refutation cuts file q) m bs p Different s h = absurd h.holds
-said_of_sides told contents (refutation cuts file q) m bs p NoEquation s h = absurd h.holds
-said_of_sides told contents (generated n) m bs p Same s h = absurd h
-said_of_sides told contents (generated n) m bs p Different s h = absurd h
-said_of_sides told contents (generated n) m bs p NoEquation s h = absurd h
-said_of_sides told contents (models k q) m bs p Same s h = absurd h
-said_of_sides told contents (models k q) m bs p Different s h = absurd h
-said_of_sides told contents (models k q) m bs p NoEquation s h = absurd h
-said_of_sides told contents (sides q) m bs p Same s h = h
-said_of_sides told contents (sides q) m bs p Different s h = h
-said_of_sides told contents (sides q) m bs p NoEquation s h = h
-said_of_sides told contents r m bs p (Proved Theorem n i tree text) s h = absurd s
-said_of_sides told contents r m bs p (Proved Unsatisfiable n i tree text) s h = absurd s
-said_of_sides told contents r m bs p a s h = absurd s
+said_of_sides : (seen : Seen) (r : Request) (m : Mode) (bs : List Block) (p : PlainProblem) (a : Answer) → IsOfSides (outcome_of a) → AnswersProblem seen r m bs p a → SaysOfSides (outcome_of a) p
+said_of_sides seen (prove q file nodes) m bs p Same s h = absurd h
+said_of_sides seen (prove q file nodes) m bs p Different s h = absurd h
+said_of_sides seen (prove q file nodes) m bs p NoEquation s h = absurd h
+said_of_sides seen (by_schedule file q) m bs p Same s h = absurd h
+said_of_sides seen (by_schedule file q) m bs p Different s h = absurd h
+said_of_sides seen (by_schedule file q) m bs p NoEquation s h = absurd h
+said_of_sides seen (refutation cuts file q) m bs p Same s h = absurd h.holds
+said_of_sides seen (refutation cuts file q) m bs p Different s h = absurd h.holds
+said_of_sides seen (refutation cuts file q) m bs p NoEquation s h = absurd h.holds
+said_of_sides seen (generated n) m bs p Same s h = absurd h
+said_of_sides seen (generated n) m bs p Different s h = absurd h
+said_of_sides seen (generated n) m bs p NoEquation s h = absurd h
+said_of_sides seen (models k q) m bs p Same s h = absurd h
+said_of_sides seen (models k q) m bs p Different s h = absurd h
+said_of_sides seen (models k q) m bs p NoEquation s h = absurd h
+said_of_sides seen (sides q) m bs p Same s h = h
+said_of_sides seen (sides q) m bs p Different s h = h
+said_of_sides seen (sides q) m bs p NoEquation s h = h
+said_of_sides seen r m bs p (Proved Theorem n i tree text) s h = absurd s
+said_of_sides seen r m bs p (Proved Unsatisfiable n i tree text) s h = absurd s
+said_of_sides seen r m bs p a s h = absurd s
 
 of_sides-no_refusal : (a : Answer) → IsOfSides (outcome_of a) → IsRefusal a → ⊥
 of_sides-no_refusal (ReadFault file) s x = s
@@ -320,32 +321,32 @@ of_sides-no_refusal (TypeAt file at why) s x = s
 of_sides-no_refusal a s x = x
 
 -- such an answer is given by files. The conclusion is a variable, so that no record is compared field by field.
-of_sides_asked : (R : Type 0) (o : Option Request) (told : Bool) (contents : List ℕ → Option (List ℕ)) (a : Answer) → IsOfSides (outcome_of a) → AnswersAsked o told contents a → ((r : Request) → o ≡ Some r → AnswersFiles r told contents a → R) → R
-of_sides_asked R None told contents Same s h k = cc
-of_sides_asked R None told contents Different s h k = cc
-of_sides_asked R None told contents NoEquation s h k = cc
-of_sides_asked R (Some r) told contents Same s h k = k r refl h
-of_sides_asked R (Some r) told contents Different s h k = k r refl h
-of_sides_asked R (Some r) told contents NoEquation s h k = k r refl h
-of_sides_asked R o told contents (Proved Theorem n i tree text) s h k = absurd s
-of_sides_asked R o told contents (Proved Unsatisfiable n i tree text) s h k = absurd s
-of_sides_asked R o told contents a s h k = absurd s
+of_sides_asked : (R : Type 0) (o : Option Request) (seen : Seen) (a : Answer) → IsOfSides (outcome_of a) → AnswersAsked o seen a → ((r : Request) → o ≡ Some r → AnswersFiles r seen a → R) → R
+of_sides_asked R None seen Same s h k = cc
+of_sides_asked R None seen Different s h k = cc
+of_sides_asked R None seen NoEquation s h k = cc
+of_sides_asked R (Some r) seen Same s h k = k r refl h
+of_sides_asked R (Some r) seen Different s h k = k r refl h
+of_sides_asked R (Some r) seen NoEquation s h k = k r refl h
+of_sides_asked R o seen (Proved Theorem n i tree text) s h k = absurd s
+of_sides_asked R o seen (Proved Unsatisfiable n i tree text) s h k = absurd s
+of_sides_asked R o seen a s h k = absurd s
 
-files_sides : (words : List (List ℕ)) (told : Bool) (contents : List ℕ → Option (List ℕ)) (a : Answer) (r : Request) → asked_by words ≡ Some r → IsOfSides (outcome_of a) → FilesAnswered r told contents a → HasSidesSo words told contents (outcome_of a)
-files_sides words told contents a r asked s f = record {
+files_sides : (words : List (List ℕ)) (seen : Seen) (a : Answer) (r : Request) → asked_by words ≡ Some r → IsOfSides (outcome_of a) → FilesAnswered r seen a → HasSidesSo words seen (outcome_of a)
+files_sides words seen a r asked s f = record {
   names = f.names;
   problem = f.problem;
-  stated = subst (λ x. OfAsked x told contents f.names (Statements f.problem)) (sym asked) f.stated;
-  says = said_of_sides told contents r f.mode f.blocks f.problem a s f.answered;
+  stated = subst (λ x. OfAsked x seen f.names (Statements f.problem)) (sym asked) f.stated;
+  says = said_of_sides seen r f.mode f.blocks f.problem a s f.answered;
 }
 
-pub sides_answer : (words : List (List ℕ)) (told : Bool) (contents : List ℕ → Option (List ℕ)) (o : Outcome) (a : Answer) → IsAnswer words told contents a → o ≡ outcome_of a → IsOfSides o → HasSidesSo words told contents o
-sides_answer words told contents o a answer is h =
+pub sides_answer : (words : List (List ℕ)) (seen : Seen) (o : Outcome) (a : Answer) → IsAnswer words seen a → o ≡ outcome_of a → IsOfSides o → HasSidesSo words seen o
+sides_answer words seen o a answer is h =
     let s : IsOfSides (outcome_of a) = subst IsOfSides is h in
-    subst (HasSidesSo words told contents) (sym is)
-    (of_sides_asked (HasSidesSo words told contents (outcome_of a)) (asked_by words) told contents a s answer
-    (λ (r : Request) (asked : asked_by words ≡ Some r) (files : AnswersFiles r told contents a).
-    files_sides words told contents a r asked s (files_answered r told contents a (of_sides-no_refusal a s) files)))
+    subst (HasSidesSo words seen) (sym is)
+    (of_sides_asked (HasSidesSo words seen (outcome_of a)) (asked_by words) seen a s answer
+    (λ (r : Request) (asked : asked_by words ≡ Some r) (files : AnswersFiles r seen a).
+    files_sides words seen a r asked s (files_answered r seen a (of_sides-no_refusal a s) files)))
 
 -- a tree that is made has no cut
 made_without_cut : (nodes : Option ℕ) (m : Mode) (p : PlainProblem) (n : ℕ) (rebuilt : Refutation) (r : IsRefuted (unfolded_problem p) m n rebuilt) (s : Option Stripped) → Asked nodes m p n rebuilt r s → IsTreeMade s → HasNoCut (reported_refutation rebuilt s).lines
@@ -367,9 +368,9 @@ strict_report nodes m p n tree text bytes proof h made =
     }
 
 -- the report of an answer that is a proof
-proof_reported : (words : List (List ℕ)) (told : Bool) (contents : List ℕ → Option (List ℕ)) (o : Outcome) (a : Answer) (written : List ℕ) → IsAnswer words told contents a → o ≡ outcome_of a → IsProvedOutcome o → written ≡ report_of (asked_name words) a → IsProofReport words told contents o written
-proof_reported words told contents o a written answer is h w =
-    let q = proved_answer words told contents a answer (subst IsProvedOutcome is h) in
+proof_reported : (words : List (List ℕ)) (seen : Seen) (o : Outcome) (a : Answer) (written : List ℕ) → IsAnswer words seen a → o ≡ outcome_of a → IsProvedOutcome o → written ≡ report_of (asked_name words) a → IsProofReport words seen o written
+proof_reported words seen o a written answer is h w =
+    let q = proved_answer words seen a answer (subst IsProvedOutcome is h) in
     let p = q.problem in
     let reported : written ≡ report_of (asked_name words) (Proved (claim_of p) q.reported q.number q.tree q.text) = w ∙ ap (report_of (asked_name words)) q.is in
     let holds = subst (λ x. HoldsOnly p x q.proof.refutation) (sym reported) (holds_report (claim_of p) (asked_name words) q.reported q.number q.nodes q.mode p q.commands q.tree q.text q.proof (name_one_line words q.request q.requested)) in
@@ -401,9 +402,9 @@ proof_reported words told contents o a written answer is h w =
     }
 
 -- the bytes that are appended for an answer that is a proof
-pub proof_appended : (words : List (List ℕ)) (told : Bool) (contents : List ℕ → Option (List ℕ)) (o : Outcome) (a : Answer) (old new : List ℕ) → IsAnswer words told contents a → o ≡ outcome_of a → new ≡ old ++ report_of (asked_name words) a → IsProvedOutcome o → Appends old new (IsProofReport words told contents o)
-proof_appended words told contents o a old new answer is w h =
-    record { written = report_of (asked_name words) a; appended = w; is_report = proof_reported words told contents o a (report_of (asked_name words) a) answer is h refl }
+pub proof_appended : (words : List (List ℕ)) (seen : Seen) (o : Outcome) (a : Answer) (old new : List ℕ) → IsAnswer words seen a → o ≡ outcome_of a → new ≡ old ++ report_of (asked_name words) a → IsProvedOutcome o → Appends old new (IsProofReport words seen o)
+proof_appended words seen o a old new answer is w h =
+    record { written = report_of (asked_name words) a; appended = w; is_report = proof_reported words seen o a (report_of (asked_name words) a) answer is h refl }
 
 -- no answer's outcome is that a write failed
 pub no_write_fault : (a : Answer) → outcome_of a ≡ ended.WriteFault → ⊥
@@ -412,9 +413,9 @@ no_write_fault (Proved Unsatisfiable n i tree text) e = cc
 no_write_fault a e = cc
 
 -- what is written for an answer
-pub written_whole : (words : List (List ℕ)) (told : Bool) (contents : List ℕ → Option (List ℕ)) (before now : List ℕ → ℕ) (o : Outcome) (a : Answer) (old new : List ℕ) → IsAnswer words told contents a → o ≡ outcome_of a → new ≡ old ++ report_of (asked_name words) a → IsWritten words told contents before now old new o
-written_whole words told contents before now ended.WriteFault a old new answer is w = absurd (no_write_fault a (sym is))
-written_whole words told contents before now o a old new answer is w =
+pub written_whole : (words : List (List ℕ)) (seen : Seen) (before now : List ℕ → ℕ) (o : Outcome) (a : Answer) (old new : List ℕ) → IsAnswer words seen a → o ≡ outcome_of a → new ≡ old ++ report_of (asked_name words) a → IsWritten words seen before now old new o
+written_whole words seen before now ended.WriteFault a old new answer is w = absurd (no_write_fault a (sym is))
+written_whole words seen before now o a old new answer is w =
     record { written = report_of (asked_name words) a; appended = w; is_report = record { answer = a; is_answer = answer; is_outcome = is; is_report = refl } }
 
 -- an answer whose outcome is that the words ask for nothing
@@ -424,17 +425,17 @@ words_form (Proved Theorem n i tree text) e = cc
 words_form (Proved Unsatisfiable n i tree text) e = cc
 words_form a e = cc
 
-words_asked : (o : Option Request) (told : Bool) (contents : List ℕ → Option (List ℕ)) → AnswersAsked o told contents Words → o ≡ None
-words_asked None told contents h = refl
-words_asked (Some (prove p file nodes)) told contents h = let f = files_answered (prove p file nodes) told contents Words (λ x. x) h in absurd f.answered
-words_asked (Some (by_schedule file p)) told contents h = let f = files_answered (by_schedule file p) told contents Words (λ x. x) h in absurd f.answered
-words_asked (Some (refutation cuts file p)) told contents h = let f = files_answered (refutation cuts file p) told contents Words (λ x. x) h in absurd f.answered.holds
-words_asked (Some (generated n)) told contents h = let f = files_answered (generated n) told contents Words (λ x. x) h in absurd f.answered
-words_asked (Some (models k p)) told contents h = let f = files_answered (models k p) told contents Words (λ x. x) h in absurd f.answered
-words_asked (Some (sides p)) told contents h = let f = files_answered (sides p) told contents Words (λ x. x) h in absurd f.answered
+words_asked : (o : Option Request) (seen : Seen) → AnswersAsked o seen Words → o ≡ None
+words_asked None seen h = refl
+words_asked (Some (prove p file nodes)) seen h = let f = files_answered (prove p file nodes) seen Words (λ x. x) h in absurd f.answered
+words_asked (Some (by_schedule file p)) seen h = let f = files_answered (by_schedule file p) seen Words (λ x. x) h in absurd f.answered
+words_asked (Some (refutation cuts file p)) seen h = let f = files_answered (refutation cuts file p) seen Words (λ x. x) h in absurd f.answered.holds
+words_asked (Some (generated n)) seen h = let f = files_answered (generated n) seen Words (λ x. x) h in absurd f.answered
+words_asked (Some (models k p)) seen h = let f = files_answered (models k p) seen Words (λ x. x) h in absurd f.answered
+words_asked (Some (sides p)) seen h = let f = files_answered (sides p) seen Words (λ x. x) h in absurd f.answered
 
-pub words_answer : (words : List (List ℕ)) (told : Bool) (contents : List ℕ → Option (List ℕ)) (o : Outcome) (a : Answer) → IsAnswer words told contents a → o ≡ outcome_of a → o ≡ ended.Words → asked_by words ≡ None
-words_answer words told contents o a answer is e = words_asked (asked_by words) told contents (subst (IsAnswer words told contents) (words_form a (sym is ∙ e)) answer)
+pub words_answer : (words : List (List ℕ)) (seen : Seen) (o : Outcome) (a : Answer) → IsAnswer words seen a → o ≡ outcome_of a → o ≡ ended.Words → asked_by words ≡ None
+words_answer words seen o a answer is e = words_asked (asked_by words) seen (subst (IsAnswer words seen) (words_form a (sym is ∙ e)) answer)
 
 -- the mode of a slot is that of its block
 record ModeOfSlot (p : PlainProblem) (blocks : List Block) (k : ℕ) (slot : Slot) : Type 0 where
@@ -450,64 +451,64 @@ mode-of-slot p (b ∷ bs) zero slot e =
 mode-of-slot p (b ∷ bs) (suc k) slot e = let later = mode-of-slot p bs k slot e in record { block = later.block; its_block = later.its_block; its_setting = later.its_setting }
 
 -- conflicts that are enough aren't answered to be spent
-pub never_spent : (o : Option Request) (told : Bool) (contents : List ℕ → Option (List ℕ)) (conflicts : ℕ) → EnoughAsked o told contents → AnswersAsked o told contents (ConflictLimit conflicts) → ⊥
-never_spent None told contents conflicts enough h = cc
-never_spent (Some (prove p file nodes)) told contents conflicts enough h =
-    let f = files_answered (prove p file nodes) told contents (ConflictLimit conflicts) (λ x. x) h in
+pub never_spent : (o : Option Request) (seen : Seen) (conflicts : ℕ) → EnoughAsked o seen → AnswersAsked o seen (ConflictLimit conflicts) → ⊥
+never_spent None seen conflicts enough h = cc
+never_spent (Some (prove p file nodes)) seen conflicts enough h =
+    let f = files_answered (prove p file nodes) seen (ConflictLimit conflicts) (λ x. x) h in
     never-ends (setting_for f.problem f.mode) (start (unfolded_problem f.problem)) conflicts (enough f.mode f.names f.problem f.is_mode f.stated) f.answered
-never_spent (Some (by_schedule file p)) told contents conflicts enough h =
-    let f = files_answered (by_schedule file p) told contents (ConflictLimit conflicts) (λ x. x) h in
+never_spent (Some (by_schedule file p)) seen conflicts enough h =
+    let f = files_answered (by_schedule file p) seen (ConflictLimit conflicts) (λ x. x) h in
     let q = f.answered in
     let b = mode-of-slot f.problem f.blocks q.number q.slot q.its_slot in
     never-ends (setting_for f.problem b.block.mode) (start (unfolded_problem f.problem)) conflicts
     (enough b.block.mode f.names f.problem (f.blocks, f.are_blocks, (q.number, b.block, b.its_block, refl)) f.stated)
     (subst (λ x. IsSpent x (start (unfolded_problem f.problem)) conflicts) b.its_setting q.spent)
-never_spent (Some (refutation cuts file p)) told contents conflicts enough h =
-    let f = files_answered (refutation cuts file p) told contents (ConflictLimit conflicts) (λ x. x) h in f.answered.holds
-never_spent (Some (generated n)) told contents conflicts enough h =
-    let f = files_answered (generated n) told contents (ConflictLimit conflicts) (λ x. x) h in
+never_spent (Some (refutation cuts file p)) seen conflicts enough h =
+    let f = files_answered (refutation cuts file p) seen (ConflictLimit conflicts) (λ x. x) h in f.answered.holds
+never_spent (Some (generated n)) seen conflicts enough h =
+    let f = files_answered (generated n) seen (ConflictLimit conflicts) (λ x. x) h in
     never-ends (setting_for f.problem f.mode) (start (unfolded_problem f.problem)) conflicts (enough f.mode f.names f.problem f.is_mode f.stated) f.answered
-never_spent (Some (models k p)) told contents conflicts enough h =
-    let f = files_answered (models k p) told contents (ConflictLimit conflicts) (λ x. x) h in f.answered
-never_spent (Some (sides p)) told contents conflicts enough h =
-    let f = files_answered (sides p) told contents (ConflictLimit conflicts) (λ x. x) h in f.answered
+never_spent (Some (models k p)) seen conflicts enough h =
+    let f = files_answered (models k p) seen (ConflictLimit conflicts) (λ x. x) h in f.answered
+never_spent (Some (sides p)) seen conflicts enough h =
+    let f = files_answered (sides p) seen (ConflictLimit conflicts) (λ x. x) h in f.answered
 
 -- the outcome of an answer
-pub outcome_whole : (words : List (List ℕ)) (told : Bool) (contents : List ℕ → Option (List ℕ)) (o : Outcome) (a : Answer) → IsAnswer words told contents a → o ≡ outcome_of a → IsOutcome words told contents o
-outcome_whole words told contents ended.WriteFault a answer is = tt
-outcome_whole words told contents o a answer is = (a, answer, is)
+pub outcome_whole : (words : List (List ℕ)) (seen : Seen) (o : Outcome) (a : Answer) → IsAnswer words seen a → o ≡ outcome_of a → IsOutcome words seen o
+outcome_whole words seen ended.WriteFault a answer is = tt
+outcome_whole words seen o a answer is = (a, answer, is)
 
 -- that memory ran out needs no cause
-pub memory_without_cause : (o : Option Request) (told : Bool) (contents : List ℕ → Option (List ℕ)) (before : List ℕ → ℕ) → HasCauseAsked o told contents before before ended.Memory
-memory_without_cause None told contents before = λ file. refl
-memory_without_cause (Some r) told contents before = λ file. refl
+pub memory_without_cause : (o : Option Request) (seen : Seen) (before : List ℕ → ℕ) → HasCauseAsked o seen before before ended.Memory
+memory_without_cause None seen before = λ file. refl
+memory_without_cause (Some r) seen before = λ file. refl
 
 -- a fault has its count
-rose_of : (r : Request) (told : Bool) (contents : List ℕ → Option (List ℕ)) (before now : List ℕ → ℕ) (f : NamedFile) → HasCauseOf r told contents before now (outcome_of (ReadFault f)) → (file : List ℕ) × Rose (before file) (now file)
-rose_of (prove p m nodes) told contents before now (Part k names) h = (h.file, h.rose)
-rose_of (by_schedule t p) told contents before now (Part k names) h = (h.file, h.rose)
-rose_of (refutation cuts t p) told contents before now (Part k names) h = (h.file, h.rose)
-rose_of (generated n) told contents before now (Part k names) h = absurd h
-rose_of (models k p) told contents before now (Part i names) h = (h.file, h.rose)
-rose_of (sides p) told contents before now (Part k names) h = (h.file, h.rose)
-rose_of r told contents before now (named.Mode name) h = (h.file, h.rose)
-rose_of r told contents before now (named.Schedule name) h = (h.file, h.rose)
-rose_of r told contents before now (Check name) h = (h.file, h.rose)
+rose_of : (r : Request) (seen : Seen) (before now : List ℕ → ℕ) (f : NamedFile) → HasCauseOf r seen before now (outcome_of (ReadFault f)) → (file : List ℕ) × Rose (before file) (now file)
+rose_of (prove p m nodes) seen before now (Part k names) h = (h.file, h.rose)
+rose_of (by_schedule t p) seen before now (Part k names) h = (h.file, h.rose)
+rose_of (refutation cuts t p) seen before now (Part k names) h = (h.file, h.rose)
+rose_of (generated n) seen before now (Part k names) h = absurd h
+rose_of (models k p) seen before now (Part i names) h = (h.file, h.rose)
+rose_of (sides p) seen before now (Part k names) h = (h.file, h.rose)
+rose_of r seen before now (named.Mode name) h = (h.file, h.rose)
+rose_of r seen before now (named.Schedule name) h = (h.file, h.rose)
+rose_of r seen before now (Check name) h = (h.file, h.rose)
 
-rose_asked : (o : Option Request) (told : Bool) (contents : List ℕ → Option (List ℕ)) (before now : List ℕ → ℕ) (f : NamedFile) → AnswersAsked o told contents (ReadFault f) → HasCauseAsked o told contents before now (outcome_of (ReadFault f)) → (file : List ℕ) × Rose (before file) (now file)
-rose_asked None told contents before now f a h = cc
-rose_asked (Some r) told contents before now f a h = rose_of r told contents before now f h
+rose_asked : (o : Option Request) (seen : Seen) (before now : List ℕ → ℕ) (f : NamedFile) → AnswersAsked o seen (ReadFault f) → HasCauseAsked o seen before now (outcome_of (ReadFault f)) → (file : List ℕ) × Rose (before file) (now file)
+rose_asked None seen before now f a h = cc
+rose_asked (Some r) seen before now f a h = rose_of r seen before now f h
 
 -- where contents are told and no count of faults rises, an answer is the defined one
-pub defined_answer : (words : List (List ℕ)) (told : Bool) (contents : List ℕ → Option (List ℕ)) (before now : List ℕ → ℕ) (o : Outcome) (a : Answer) → IsAnswer words told contents a → o ≡ outcome_of a → IsTrue told
-    → HasCause words told contents before now (outcome_of a) → ((file : List ℕ) → Rose (before file) (now file) → ⊥) → IsDefined words contents o
-defined_answer words told contents before now o a answer is t cause quiet = subst (IsDefined words contents) (sym is) (go a (subst (λ b. IsAnswer words b contents a) t answer) (subst (λ b. HasCause words b contents before now (outcome_of a)) t cause))
+pub defined_answer : (words : List (List ℕ)) (seen : Seen) (before now : List ℕ → ℕ) (o : Outcome) (a : Answer) → IsAnswer words seen a → o ≡ outcome_of a → IsTrue seen.tells
+    → HasCause words seen before now (outcome_of a) → ((file : List ℕ) → Rose (before file) (now file) → ⊥) → IsDefined words seen.contents o
+defined_answer words seen before now o a answer is t cause quiet = subst (IsDefined words seen.contents) (sym is) (go a (subst (λ b. IsAnswer words (record { tells = b; contents = seen.contents }) a) t answer) (subst (λ b. HasCause words (record { tells = b; contents = seen.contents }) before now (outcome_of a)) t cause))
   where
-    go : (a : Answer) → IsAnswer words true contents a → HasCause words true contents before now (outcome_of a) → IsDefined words contents (outcome_of a)
+    go : (a : Answer) → IsAnswer words (all_told seen.contents) a → HasCause words (all_told seen.contents) before now (outcome_of a) → IsDefined words seen.contents (outcome_of a)
     go Memory answer cause = tt
     go UnreadWords answer cause = tt
     go (ConflictLimit c) answer cause = tt
-    go (ReadFault f) answer cause = let r = rose_asked (asked_by words) true contents before now f answer cause in absurd (quiet r.0 r.1)
+    go (ReadFault f) answer cause = let r = rose_asked (asked_by words) (all_told seen.contents) before now f answer cause in absurd (quiet r.0 r.1)
     go (Proved Theorem n i tree text) answer cause = (Proved Theorem n i tree text, (tt, answer), refl)
     go (Proved Unsatisfiable n i tree text) answer cause = (Proved Unsatisfiable n i tree text, (tt, answer), refl)
     go a answer cause = (a, (tt, answer), refl)

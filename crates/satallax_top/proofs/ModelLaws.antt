@@ -1,5 +1,6 @@
 -- What is answered of finite models has the meaning that it claims.
-use Rattle.std.proofs.Common.{◌≡◌, ℕ, Bool, List, ◌++◌, Option, Some, None, refl, sym, ap, subst, ◌∙◌}
+use Rattle.std.proofs.Common.{◌≡◌, ℕ, List, ◌++◌, Option, Some, None, refl, sym, ap, subst, ◌∙◌}
+use Rattle.outside.specs.Seen.{Seen}
 use Rattle.stt_core.specs.PlainProblem.{PlainProblem}
 use Rattle.mode_file.specs.declared.Mode.{Mode}
 use Rattle.mode_schedule.specs.declared.Block.{Block}
@@ -31,45 +32,45 @@ of_models-no_refusal (TypeAt file at why) s x = s
 of_models-no_refusal a s x = x
 
 -- Such an answer is given by files. The conclusion is a variable, so that no record is compared field by field.
-of_models_asked : (R : Type 0) (o : Option Request) (told : Bool) (contents : List ℕ → Option (List ℕ)) (a : Answer) → IsOfModels (outcome_of a) → AnswersAsked o told contents a → ((r : Request) → o ≡ Some r → AnswersFiles r told contents a → R) → R
-of_models_asked R None told contents (CounterSatisfiable n lines) s h k = cc
-of_models_asked R None told contents (Satisfiable n lines) s h k = cc
-of_models_asked R None told contents (NoneSmall n) s h k = cc
-of_models_asked R None told contents (ModelsTooMany n) s h k = cc
-of_models_asked R (Some r) told contents (CounterSatisfiable n lines) s h k = k r refl h
-of_models_asked R (Some r) told contents (Satisfiable n lines) s h k = k r refl h
-of_models_asked R (Some r) told contents (NoneSmall n) s h k = k r refl h
-of_models_asked R (Some r) told contents (ModelsTooMany n) s h k = k r refl h
-of_models_asked R o told contents (Proved Theorem n i tree text) s h k = absurd s
-of_models_asked R o told contents (Proved Unsatisfiable n i tree text) s h k = absurd s
-of_models_asked R o told contents a s h k = absurd s
+of_models_asked : (R : Type 0) (o : Option Request) (seen : Seen) (a : Answer) → IsOfModels (outcome_of a) → AnswersAsked o seen a → ((r : Request) → o ≡ Some r → AnswersFiles r seen a → R) → R
+of_models_asked R None seen (CounterSatisfiable n lines) s h k = cc
+of_models_asked R None seen (Satisfiable n lines) s h k = cc
+of_models_asked R None seen (NoneSmall n) s h k = cc
+of_models_asked R None seen (ModelsTooMany n) s h k = cc
+of_models_asked R (Some r) seen (CounterSatisfiable n lines) s h k = k r refl h
+of_models_asked R (Some r) seen (Satisfiable n lines) s h k = k r refl h
+of_models_asked R (Some r) seen (NoneSmall n) s h k = k r refl h
+of_models_asked R (Some r) seen (ModelsTooMany n) s h k = k r refl h
+of_models_asked R o seen (Proved Theorem n i tree text) s h k = absurd s
+of_models_asked R o seen (Proved Unsatisfiable n i tree text) s h k = absurd s
+of_models_asked R o seen a s h k = absurd s
 
 -- a problem that is answered so was one for which models were looked for
-of_models_problem : (R : Type 0) (told : Bool) (contents : List ℕ → Option (List ℕ)) (r : Request) (m : Mode) (bs : List Block) (p : PlainProblem) (a : Answer) → IsOfModels (outcome_of a) → AnswersProblem told contents r m bs p a → ((upto : ℕ) (file : List ℕ) → r ≡ models upto file → AnswersModels upto p a → R) → R
-of_models_problem R told contents (models upto file) m bs p a s h k = k upto file refl h
-of_models_problem R told contents (prove q file nodes) m bs p (CounterSatisfiable n lines) s h k = absurd h
-of_models_problem R told contents (prove q file nodes) m bs p (Satisfiable n lines) s h k = absurd h
-of_models_problem R told contents (prove q file nodes) m bs p (NoneSmall n) s h k = absurd h
-of_models_problem R told contents (prove q file nodes) m bs p (ModelsTooMany n) s h k = absurd h
-of_models_problem R told contents (by_schedule file q) m bs p (CounterSatisfiable n lines) s h k = absurd h
-of_models_problem R told contents (by_schedule file q) m bs p (Satisfiable n lines) s h k = absurd h
-of_models_problem R told contents (by_schedule file q) m bs p (NoneSmall n) s h k = absurd h
-of_models_problem R told contents (by_schedule file q) m bs p (ModelsTooMany n) s h k = absurd h
-of_models_problem R told contents (refutation cuts file q) m bs p (CounterSatisfiable n lines) s h k = absurd h.holds
-of_models_problem R told contents (refutation cuts file q) m bs p (Satisfiable n lines) s h k = absurd h.holds
-of_models_problem R told contents (refutation cuts file q) m bs p (NoneSmall n) s h k = absurd h.holds
-of_models_problem R told contents (refutation cuts file q) m bs p (ModelsTooMany n) s h k = absurd h.holds
-of_models_problem R told contents (generated j) m bs p (CounterSatisfiable n lines) s h k = absurd h
-of_models_problem R told contents (generated j) m bs p (Satisfiable n lines) s h k = absurd h
-of_models_problem R told contents (generated j) m bs p (NoneSmall n) s h k = absurd h
-of_models_problem R told contents (generated j) m bs p (ModelsTooMany n) s h k = absurd h
-of_models_problem R told contents (sides q) m bs p (CounterSatisfiable n lines) s h k = absurd h
-of_models_problem R told contents (sides q) m bs p (Satisfiable n lines) s h k = absurd h
-of_models_problem R told contents (sides q) m bs p (NoneSmall n) s h k = absurd h
-of_models_problem R told contents (sides q) m bs p (ModelsTooMany n) s h k = absurd h
-of_models_problem R told contents r m bs p (Proved Theorem n i tree text) s h k = absurd s
-of_models_problem R told contents r m bs p (Proved Unsatisfiable n i tree text) s h k = absurd s
-of_models_problem R told contents r m bs p a s h k = absurd s
+of_models_problem : (R : Type 0) (seen : Seen) (r : Request) (m : Mode) (bs : List Block) (p : PlainProblem) (a : Answer) → IsOfModels (outcome_of a) → AnswersProblem seen r m bs p a → ((upto : ℕ) (file : List ℕ) → r ≡ models upto file → AnswersModels upto p a → R) → R
+of_models_problem R seen (models upto file) m bs p a s h k = k upto file refl h
+of_models_problem R seen (prove q file nodes) m bs p (CounterSatisfiable n lines) s h k = absurd h
+of_models_problem R seen (prove q file nodes) m bs p (Satisfiable n lines) s h k = absurd h
+of_models_problem R seen (prove q file nodes) m bs p (NoneSmall n) s h k = absurd h
+of_models_problem R seen (prove q file nodes) m bs p (ModelsTooMany n) s h k = absurd h
+of_models_problem R seen (by_schedule file q) m bs p (CounterSatisfiable n lines) s h k = absurd h
+of_models_problem R seen (by_schedule file q) m bs p (Satisfiable n lines) s h k = absurd h
+of_models_problem R seen (by_schedule file q) m bs p (NoneSmall n) s h k = absurd h
+of_models_problem R seen (by_schedule file q) m bs p (ModelsTooMany n) s h k = absurd h
+of_models_problem R seen (refutation cuts file q) m bs p (CounterSatisfiable n lines) s h k = absurd h.holds
+of_models_problem R seen (refutation cuts file q) m bs p (Satisfiable n lines) s h k = absurd h.holds
+of_models_problem R seen (refutation cuts file q) m bs p (NoneSmall n) s h k = absurd h.holds
+of_models_problem R seen (refutation cuts file q) m bs p (ModelsTooMany n) s h k = absurd h.holds
+of_models_problem R seen (generated j) m bs p (CounterSatisfiable n lines) s h k = absurd h
+of_models_problem R seen (generated j) m bs p (Satisfiable n lines) s h k = absurd h
+of_models_problem R seen (generated j) m bs p (NoneSmall n) s h k = absurd h
+of_models_problem R seen (generated j) m bs p (ModelsTooMany n) s h k = absurd h
+of_models_problem R seen (sides q) m bs p (CounterSatisfiable n lines) s h k = absurd h
+of_models_problem R seen (sides q) m bs p (Satisfiable n lines) s h k = absurd h
+of_models_problem R seen (sides q) m bs p (NoneSmall n) s h k = absurd h
+of_models_problem R seen (sides q) m bs p (ModelsTooMany n) s h k = absurd h
+of_models_problem R seen r m bs p (Proved Theorem n i tree text) s h k = absurd s
+of_models_problem R seen r m bs p (Proved Unsatisfiable n i tree text) s h k = absurd s
+of_models_problem R seen r m bs p a s h k = absurd s
 
 -- what is answered holds
 said_of_models : (upto : ℕ) (p : PlainProblem) (a : Answer) → IsOfModels (outcome_of a) → AnswersModels upto p a → SaysOfModels (outcome_of a) upto p
@@ -82,21 +83,21 @@ said_of_models upto p (Proved Unsatisfiable n i tree text) s h = absurd s
 said_of_models upto p a s h = absurd s
 
 -- files that are answered so, by the request that the words make
-of_models_answer : (R : Type 0) (words : List (List ℕ)) (told : Bool) (contents : List ℕ → Option (List ℕ)) (a : Answer) → IsOfModels (outcome_of a) → IsAnswer words told contents a
-    → ((upto : ℕ) (file : List ℕ) (names : List (List ℕ)) (p : PlainProblem) → asked_by words ≡ Some (models upto file) → OfAsked (asked_by words) told contents names (Statements p) → AnswersModels upto p a → R) → R
-of_models_answer R words told contents a s answer k =
-    of_models_asked R (asked_by words) told contents a s answer
-    (λ (r : Request) (asked : asked_by words ≡ Some r) (files : AnswersFiles r told contents a).
-    let f = files_answered r told contents a (of_models-no_refusal a s) files in
-    of_models_problem R told contents r f.mode f.blocks f.problem a s f.answered
+of_models_answer : (R : Type 0) (words : List (List ℕ)) (seen : Seen) (a : Answer) → IsOfModels (outcome_of a) → IsAnswer words seen a
+    → ((upto : ℕ) (file : List ℕ) (names : List (List ℕ)) (p : PlainProblem) → asked_by words ≡ Some (models upto file) → OfAsked (asked_by words) seen names (Statements p) → AnswersModels upto p a → R) → R
+of_models_answer R words seen a s answer k =
+    of_models_asked R (asked_by words) seen a s answer
+    (λ (r : Request) (asked : asked_by words ≡ Some r) (files : AnswersFiles r seen a).
+    let f = files_answered r seen a (of_models-no_refusal a s) files in
+    of_models_problem R seen r f.mode f.blocks f.problem a s f.answered
     (λ (upto : ℕ) (file : List ℕ) (is : r ≡ models upto file) (h : AnswersModels upto f.problem a).
-    k upto file f.names f.problem (asked ∙ ap Some is) (subst (λ x. OfAsked x told contents f.names (Statements f.problem)) (sym asked) f.stated) h))
+    k upto file f.names f.problem (asked ∙ ap Some is) (subst (λ x. OfAsked x seen f.names (Statements f.problem)) (sym asked) f.stated) h))
 
-pub models_answer : (words : List (List ℕ)) (told : Bool) (contents : List ℕ → Option (List ℕ)) (o : Outcome) (a : Answer) → IsAnswer words told contents a → o ≡ outcome_of a → IsOfModels o → HasModelsSo words told contents o
-models_answer words told contents o a answer is h =
+pub models_answer : (words : List (List ℕ)) (seen : Seen) (o : Outcome) (a : Answer) → IsAnswer words seen a → o ≡ outcome_of a → IsOfModels o → HasModelsSo words seen o
+models_answer words seen o a answer is h =
     let s : IsOfModels (outcome_of a) = subst IsOfModels is h in
-    subst (HasModelsSo words told contents) (sym is)
-    (of_models_answer (HasModelsSo words told contents (outcome_of a)) words told contents a s answer
+    subst (HasModelsSo words seen) (sym is)
+    (of_models_answer (HasModelsSo words seen (outcome_of a)) words seen a s answer
     (λ upto file names p asked stated h. record { upto = upto; file = file; asked = asked; names = names; problem = p; stated = stated; says = said_of_models upto p a s h }))
 
 -- A MODEL'S REPORT
@@ -126,9 +127,9 @@ of_models (Proved Theorem n i tree text) s = absurd s
 of_models (Proved Unsatisfiable n i tree text) s = absurd s
 of_models a s = absurd s
 
-model_reported : (words : List (List ℕ)) (told : Bool) (contents : List ℕ → Option (List ℕ)) (a : Answer) → IsAnswer words told contents a → IsModelOutcome (outcome_of a) → IsModelReport words told contents (outcome_of a) (report_of (asked_name words) a)
-model_reported words told contents a answer s =
-    of_models_answer (IsModelReport words told contents (outcome_of a) (report_of (asked_name words) a)) words told contents a (of_models a s) answer
+model_reported : (words : List (List ℕ)) (seen : Seen) (a : Answer) → IsAnswer words seen a → IsModelOutcome (outcome_of a) → IsModelReport words seen (outcome_of a) (report_of (asked_name words) a)
+model_reported words seen a answer s =
+    of_models_answer (IsModelReport words seen (outcome_of a) (report_of (asked_name words) a)) words seen a (of_models a s) answer
     (λ upto file names p asked stated h.
     let m = model_form upto p a s h in
     let shown = m.found.found.shows in
@@ -146,11 +147,11 @@ model_reported words told contents a answer s =
     })
 
 -- the bytes that are appended for an answer that is a model
-pub model_appended : (words : List (List ℕ)) (told : Bool) (contents : List ℕ → Option (List ℕ)) (o : Outcome) (a : Answer) (old new : List ℕ) → IsAnswer words told contents a → o ≡ outcome_of a → new ≡ old ++ report_of (asked_name words) a → IsModelOutcome o → Appends old new (IsModelReport words told contents o)
-model_appended words told contents o a old new answer is w h =
+pub model_appended : (words : List (List ℕ)) (seen : Seen) (o : Outcome) (a : Answer) (old new : List ℕ) → IsAnswer words seen a → o ≡ outcome_of a → new ≡ old ++ report_of (asked_name words) a → IsModelOutcome o → Appends old new (IsModelReport words seen o)
+model_appended words seen o a old new answer is w h =
     let s : IsModelOutcome (outcome_of a) = subst IsModelOutcome is h in
     record {
       written = report_of (asked_name words) a;
       appended = w;
-      is_report = subst (λ x. IsModelReport words told contents x (report_of (asked_name words) a)) (sym is) (model_reported words told contents a answer s);
+      is_report = subst (λ x. IsModelReport words seen x (report_of (asked_name words) a)) (sym is) (model_reported words seen a answer s);
     }

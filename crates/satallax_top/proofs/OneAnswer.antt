@@ -23,7 +23,7 @@ use Rattle.szs_report.specs.declared.outcome.ModeWhy.{ModeWhy}
 use Rattle.szs_report.specs.declared.outcome.ModeWhy.TheVariants.{UnknownKey, Twice, BadNumber, OutOfRange}
 use Rattle.szs_report.specs.declared.outcome.ScheduleWhy.{ScheduleWhy}
 use Rattle.szs_report.specs.declared.outcome.ScheduleWhy.TheVariants as why
-use Rattle.request_answers.specs.Requested.{problem_name, mode_file, schedule_file, told_of, contents_of}
+use Rattle.request_answers.specs.Requested.{problem_name, mode_file, schedule_file, seen_of}
 use Rattle.request_answers.specs.NamedFiles.{OfFile, IsLongFile}
 use Rattle.request_answers.specs.Modes.{IsModeBy, refused_at, IsBadMode}
 use Rattle.request_answers.specs.Schedules.{IsScheduleBy, refused_schedule_at, IsBadSchedule}
@@ -49,7 +49,7 @@ use Rattle.request_answers.specs.Modelled.{AnswersModels}
 use Rattle.satallax_top.specs.Models.{model_answer_by}
 use Rattle.request_answers.proofs.CheckedLaws.{accepted_not_refused, one_refusal}
 use Rattle.request_answers.proofs.RunEnds.{solved-same, turns-same, demoed-same}
-use Rattle.satallax_top.proofs.ToldFiles.{IsFinal, one_told}
+use Rattle.satallax_top.proofs.ToldFiles.{all_told, IsFinal, one_told}
 
 -- what the bytes of a text are answered with
 data BytesAnswer (cuts : Cuts) (p : PlainProblem) (bytes : List ℕ) (a : Answer) : Type 0 where
@@ -76,7 +76,7 @@ record IsTextRead (cuts : Cuts) (contents : List ℕ → Option (List ℕ)) (fil
   pub told : contents file ≡ Some bytes
   pub answer : ((a ≡ TooLong (Check file)) × (byte_limit < length bytes)) ⊎ ((length bytes ≤ byte_limit) × BytesAnswer cuts p bytes a)
 
-text_read : (cuts : Cuts) (contents : List ℕ → Option (List ℕ)) (file : List ℕ) (p : PlainProblem) (a : Answer) → IsSettled a → AnswersText cuts true contents file p a → IsTextRead cuts contents file p a
+text_read : (cuts : Cuts) (contents : List ℕ → Option (List ℕ)) (file : List ℕ) (p : PlainProblem) (a : Answer) → IsSettled a → AnswersText cuts (all_told contents) file p a → IsTextRead cuts contents file p a
 text_read cuts contents file p Memory w h = absurd w
 text_read cuts contents file p (ReadFault named) w h = absurd w
 text_read cuts contents file p (TooLong (Check own)) w h =
@@ -146,7 +146,7 @@ finding_same upto p a b h k = h.is ∙ ap (finding_answer upto p) (one_finding p
 
 -- a problem that is read is answered in one way
 problem_same : (r : Request) (m : SearchMode) (bs : List Block) (contents : List ℕ → Option (List ℕ)) (p : PlainProblem) (a b : Answer) → IsSettled a → IsSettled b
-    → AnswersProblem true contents r m bs p a → AnswersProblem true contents r m bs p b → without_refutation a ≡ without_refutation b
+    → AnswersProblem (all_told contents) r m bs p a → AnswersProblem (all_told contents) r m bs p b → without_refutation a ≡ without_refutation b
 problem_same (prove p file nodes) m bs contents q a b w v h k = solved-same nodes m q a b w v h k
 problem_same (by_schedule file p) m bs contents q a b w v h k = turns-same bs q a b w v h k
 problem_same (refutation cuts file p) m bs contents q a b w v h k = ap without_refutation (text_same cuts contents file q a b (text_read cuts contents file q a w h) (text_read cuts contents file q b v k))
@@ -155,13 +155,13 @@ problem_same (models upto p) m bs contents q a b w v h k = ap without_refutation
 problem_same (sides p) m bs contents q a b w v h k = ap without_refutation (compared_same q a b (comparison_of q a w h) (comparison_of q b v k))
 
 stated_same : (r : Request) (m : SearchMode) (bs : List Block) (contents : List ℕ → Option (List ℕ)) (names : List (List ℕ)) (a b : Answer) (o : Result PlainProblem IllInFile) → IsSettled a → IsSettled b
-    → AnswersStated (AnswersProblem true contents r m bs) names a o → AnswersStated (AnswersProblem true contents r m bs) names b o → without_refutation a ≡ without_refutation b
+    → AnswersStated (AnswersProblem (all_told contents) r m bs) names a o → AnswersStated (AnswersProblem (all_told contents) r m bs) names b o → without_refutation a ≡ without_refutation b
 stated_same r m bs contents names a b (Ok p) w v h k = problem_same r m bs contents p a b w v h k
 stated_same r m bs contents names a b (Err ill) w v h k = ap without_refutation (h ∙ sym k)
 
 -- by how the gathering ends
 ending_same : (r : Request) (m : SearchMode) (bs : List Block) (contents : List ℕ → Option (List ℕ)) (names : List (List ℕ)) (a b : Answer) (e : Ending) → IsSettled a → IsSettled b
-    → AnswersEnding (AnswersProblem true contents r m bs) names a e → AnswersEnding (AnswersProblem true contents r m bs) names b e → without_refutation a ≡ without_refutation b
+    → AnswersEnding (AnswersProblem (all_told contents) r m bs) names a e → AnswersEnding (AnswersProblem (all_told contents) r m bs) names b e → without_refutation a ≡ without_refutation b
 ending_same r m bs contents names a b (done ss) w v h k = stated_same r m bs contents names a b (problem_of ss) w v h k
 ending_same r m bs contents names a b (stopped s) w v h k = ap without_refutation (h ∙ sym k)
 
@@ -176,11 +176,11 @@ final_of Answers names a (stopped (too_many file at)) w h = tt
 final_of Answers names a (stopped (no_name file at)) w h = tt
 
 -- one file's bytes
-bytes_of : (contents : List ℕ → Option (List ℕ)) (file : List ℕ) (P Q : List ℕ → Type 0) (h : OfFile true contents file P) (k : OfFile true contents file Q) → h.bytes ≡ k.bytes
+bytes_of : (contents : List ℕ → Option (List ℕ)) (file : List ℕ) (P Q : List ℕ → Type 0) (h : OfFile (all_told contents) file P) (k : OfFile (all_told contents) file Q) → h.bytes ≡ k.bytes
 bytes_of contents file P Q h k = let both : Some h.bytes ≡ Some k.bytes = sym (h.told_bytes refl) ∙ k.told_bytes refl in cc
 
 -- no file is both read whole and too long
-not_long : (contents : List ℕ → Option (List ℕ)) (file : List ℕ) (P : List ℕ → Type 0) → OfFile true contents file P → IsLongFile true contents file → ⊥
+not_long : (contents : List ℕ → Option (List ℕ)) (file : List ℕ) (P : List ℕ → Type 0) → OfFile (all_told contents) file P → IsLongFile (all_told contents) file → ⊥
 not_long contents file P h l =
     let q = l refl in
     let both : Some h.bytes ≡ Some q.0 = sym (h.told_bytes refl) ∙ q.1 in
@@ -188,13 +188,13 @@ not_long contents file P h l =
     omega (arith, h.short, q.2, ap length one)
 
 -- the mode is one
-mode_same : (contents : List ℕ → Option (List ℕ)) (file : Option (List ℕ)) (m n : SearchMode) → IsModeBy true contents file m → IsModeBy true contents file n → m ≡ n
+mode_same : (contents : List ℕ → Option (List ℕ)) (file : Option (List ℕ)) (m n : SearchMode) → IsModeBy (all_told contents) file m → IsModeBy (all_told contents) file n → m ≡ n
 mode_same contents None m n h k = h ∙ sym k
 mode_same contents (Some file) m n h k =
     one_mode (lines_of k.bytes) m n (subst (λ bs. States (lines_of bs) m) (bytes_of contents file _ _ h k) h.holds) k.holds
 
 -- a mode's file is read, or has one bad line
-no_bad_mode : (contents : List ℕ → Option (List ℕ)) (file : Option (List ℕ)) (m : SearchMode) (line : ℕ) (why : ModeWhy) → IsModeBy true contents file m → IsBadMode true contents file line why → ⊥
+no_bad_mode : (contents : List ℕ → Option (List ℕ)) (file : Option (List ℕ)) (m : SearchMode) (line : ℕ) (why : ModeWhy) → IsModeBy (all_told contents) file m → IsBadMode (all_told contents) file line why → ⊥
 no_bad_mode contents None m line why h k = k
 no_bad_mode contents (Some file) m line why h k =
     not_both_answers (lines_of k.bytes) m (refused_at why line) (subst (λ bs. States (lines_of bs) m) (bytes_of contents file _ _ h k) h.holds) k.holds
@@ -205,14 +205,14 @@ mode_answered Twice line = refl
 mode_answered BadNumber line = refl
 mode_answered OutOfRange line = refl
 
-one_bad_mode : (contents : List ℕ → Option (List ℕ)) (file : Option (List ℕ)) (line other : ℕ) (why cause : ModeWhy) → IsBadMode true contents file line why → IsBadMode true contents file other cause → ModeAt line why ≡ ModeAt other cause
+one_bad_mode : (contents : List ℕ → Option (List ℕ)) (file : Option (List ℕ)) (line other : ℕ) (why cause : ModeWhy) → IsBadMode (all_told contents) file line why → IsBadMode (all_told contents) file other cause → ModeAt line why ≡ ModeAt other cause
 one_bad_mode contents None line other why cause h k = absurd h
 one_bad_mode contents (Some file) line other why cause h k =
     let same = one_bad_line (lines_of k.bytes) (refused_at why line) (refused_at cause other) (subst (λ bs. Refuses (lines_of bs) (refused_at why line)) (bytes_of contents file _ _ h k) h.holds) k.holds in
     sym (mode_answered why line) ∙ ap mode_answer same ∙ mode_answered cause other
 
 -- the blocks are one list
-schedule_same : (contents : List ℕ → Option (List ℕ)) (file : Option (List ℕ)) (bs cs : List Block) → IsScheduleBy true contents file bs → IsScheduleBy true contents file cs → bs ≡ cs
+schedule_same : (contents : List ℕ → Option (List ℕ)) (file : Option (List ℕ)) (bs cs : List Block) → IsScheduleBy (all_told contents) file bs → IsScheduleBy (all_told contents) file cs → bs ≡ cs
 schedule_same contents None bs cs h k = h ∙ sym k
 schedule_same contents (Some file) bs cs h k =
     one_schedule (lines_of k.bytes) bs cs (subst (λ x. StatesBlocks (lines_of x) bs) (bytes_of contents file _ _ h k) h.holds) k.holds
@@ -226,7 +226,7 @@ no_memory why.OutOfRange line e = cc
 no_memory why.NoSlice line e = cc
 no_memory why.TooManyBlocks line e = cc
 
-no_bad_schedule : (contents : List ℕ → Option (List ℕ)) (file : Option (List ℕ)) (bs : List Block) (line : ℕ) (cause : ScheduleWhy) → IsScheduleBy true contents file bs → IsBadSchedule true contents file line cause → ⊥
+no_bad_schedule : (contents : List ℕ → Option (List ℕ)) (file : Option (List ℕ)) (bs : List Block) (line : ℕ) (cause : ScheduleWhy) → IsScheduleBy (all_told contents) file bs → IsBadSchedule (all_told contents) file line cause → ⊥
 no_bad_schedule contents None bs line cause h k = k
 no_bad_schedule contents (Some file) bs line cause h k =
     schedule_or_refusal (lines_of k.bytes) bs (refused_schedule_at cause line) (no_memory cause line) (subst (λ x. StatesBlocks (lines_of x) bs) (bytes_of contents file _ _ h k) h.holds) k.holds
@@ -239,7 +239,7 @@ schedule_answered why.OutOfRange line = refl
 schedule_answered why.NoSlice line = refl
 schedule_answered why.TooManyBlocks line = refl
 
-one_bad_schedule : (contents : List ℕ → Option (List ℕ)) (file : Option (List ℕ)) (line other : ℕ) (cause more : ScheduleWhy) → IsBadSchedule true contents file line cause → IsBadSchedule true contents file other more → ScheduleAt line cause ≡ ScheduleAt other more
+one_bad_schedule : (contents : List ℕ → Option (List ℕ)) (file : Option (List ℕ)) (line other : ℕ) (cause more : ScheduleWhy) → IsBadSchedule (all_told contents) file line cause → IsBadSchedule (all_told contents) file other more → ScheduleAt line cause ≡ ScheduleAt other more
 one_bad_schedule contents None line other cause more h k = absurd h
 one_bad_schedule contents (Some file) line other cause more h k =
     let same =
@@ -248,68 +248,68 @@ one_bad_schedule contents (Some file) line other cause more h k =
     sym (schedule_answered cause line) ∙ ap schedule_answer same ∙ schedule_answered more other
 
 -- what is told of a request is told
-told_true : (r : Request) → told_of true r ≡ true
-told_true (prove p file nodes) = refl
-told_true (by_schedule file p) = refl
-told_true (refutation cuts file p) = refl
-told_true (generated n) = refl
-told_true (models upto p) = refl
-told_true (sides p) = refl
+told_true : (contents : List ℕ → Option (List ℕ)) (r : Request) → (seen_of (all_told contents) r).tells ≡ true
+told_true contents (prove p file nodes) = refl
+told_true contents (by_schedule file p) = refl
+told_true contents (refutation cuts file p) = refl
+told_true contents (generated n) = refl
+told_true contents (models upto p) = refl
+told_true contents (sides p) = refl
 
 files_same : (r : Request) (contents : List ℕ → Option (List ℕ)) (a b : Answer) → IsSettled a → IsSettled b
-    → AnswersFiles r true contents a → AnswersFiles r true contents b → without_refutation a ≡ without_refutation b
+    → AnswersFiles r (all_told contents) a → AnswersFiles r (all_told contents) b → without_refutation a ≡ without_refutation b
 files_same r contents a b w v h k =
     let m = mode_same contents (mode_file r) h.mode k.mode h.is_mode k.is_mode in
     let bs = schedule_same contents (schedule_file r) h.blocks k.blocks h.are_blocks k.are_blocks in
     let f = h.files in
     let g = k.files in
     let same =
-    one_told (contents_of contents r) (problem_name r) h.names f.texts k.names g.texts f.ending g.ending
-    (f.told_texts (told_true r)) f.gathers (final_of (AnswersProblem true contents r h.mode h.blocks) h.names a f.ending w f.holds)
-    (g.told_texts (told_true r)) g.gathers (final_of (AnswersProblem true contents r k.mode k.blocks) k.names b g.ending v g.holds) in
-    let Here : List (List ℕ) → Ending → Type 0 = λ ns e. AnswersEnding (AnswersProblem true contents r k.mode k.blocks) ns a e in
-    let moved : Here h.names f.ending = subst (λ x. AnswersEnding (AnswersProblem true contents r k.mode x) h.names a f.ending) bs (subst (λ n. AnswersEnding (AnswersProblem true contents r n h.blocks) h.names a f.ending) m f.holds) in
+    one_told (seen_of (all_told contents) r).contents (problem_name r) h.names f.texts k.names g.texts f.ending g.ending
+    (f.told_texts (told_true contents r)) f.gathers (final_of (AnswersProblem (all_told contents) r h.mode h.blocks) h.names a f.ending w f.holds)
+    (g.told_texts (told_true contents r)) g.gathers (final_of (AnswersProblem (all_told contents) r k.mode k.blocks) k.names b g.ending v g.holds) in
+    let Here : List (List ℕ) → Ending → Type 0 = λ ns e. AnswersEnding (AnswersProblem (all_told contents) r k.mode k.blocks) ns a e in
+    let moved : Here h.names f.ending = subst (λ x. AnswersEnding (AnswersProblem (all_told contents) r k.mode x) h.names a f.ending) bs (subst (λ n. AnswersEnding (AnswersProblem (all_told contents) r n h.blocks) h.names a f.ending) m f.holds) in
     ending_same r k.mode k.blocks contents k.names a b g.ending w v (subst (λ ns. Here ns g.ending) same.names_same (subst (Here h.names) same.endings_same moved)) g.holds
 
 -- an answer of a mode's file
 data IsOfModeFile (contents : List ℕ → Option (List ℕ)) (o : Option (List ℕ)) (a : Answer) : Type 0 where
-  bad_mode : (line : ℕ) (why : ModeWhy) → a ≡ ModeAt line why → IsBadMode true contents o line why → IsOfModeFile contents o a
-  long_mode : (file : List ℕ) → a ≡ TooLong (Mode file) → o ≡ Some file → IsLongFile true contents file → IsOfModeFile contents o a
+  bad_mode : (line : ℕ) (why : ModeWhy) → a ≡ ModeAt line why → IsBadMode (all_told contents) o line why → IsOfModeFile contents o a
+  long_mode : (file : List ℕ) → a ≡ TooLong (Mode file) → o ≡ Some file → IsLongFile (all_told contents) file → IsOfModeFile contents o a
 
 no_mode_named : (contents : List ℕ → Option (List ℕ)) (o : Option (List ℕ)) (a : Answer) → o ≡ None → IsOfModeFile contents o a → ⊥
-no_mode_named contents o a e (bad_mode line why is h) = subst (λ f. IsBadMode true contents f line why) e h
+no_mode_named contents o a e (bad_mode line why is h) = subst (λ f. IsBadMode (all_told contents) f line why) e h
 no_mode_named contents o a e (long_mode file is f l) = cc
 
-mode_or_answer : (contents : List ℕ → Option (List ℕ)) (o : Option (List ℕ)) (m : SearchMode) (a : Answer) → IsModeBy true contents o m → IsOfModeFile contents o a → ⊥
+mode_or_answer : (contents : List ℕ → Option (List ℕ)) (o : Option (List ℕ)) (m : SearchMode) (a : Answer) → IsModeBy (all_told contents) o m → IsOfModeFile contents o a → ⊥
 mode_or_answer contents o m a h (bad_mode line why is k) = no_bad_mode contents o m line why h k
-mode_or_answer contents o m a h (long_mode file is e l) = not_long contents file _ (subst (λ f. IsModeBy true contents f m) e h) l
+mode_or_answer contents o m a h (long_mode file is e l) = not_long contents file _ (subst (λ f. IsModeBy (all_told contents) f m) e h) l
 
 same_name : (o : Option (List ℕ)) (file other : List ℕ) → o ≡ Some file → o ≡ Some other → file ≡ other
 same_name o file other e f = cc
 
 mode_answer-same : (contents : List ℕ → Option (List ℕ)) (o : Option (List ℕ)) (a b : Answer) → IsOfModeFile contents o a → IsOfModeFile contents o b → a ≡ b
 mode_answer-same contents o a b (bad_mode line why x h) (bad_mode other cause y k) = x ∙ one_bad_mode contents o line other why cause h k ∙ sym y
-mode_answer-same contents o a b (bad_mode line why x h) (long_mode file y e l) = absurd (not_long contents file _ (subst (λ f. IsBadMode true contents f line why) e h) l)
-mode_answer-same contents o a b (long_mode file x e l) (bad_mode line why y h) = absurd (not_long contents file _ (subst (λ f. IsBadMode true contents f line why) e h) l)
+mode_answer-same contents o a b (bad_mode line why x h) (long_mode file y e l) = absurd (not_long contents file _ (subst (λ f. IsBadMode (all_told contents) f line why) e h) l)
+mode_answer-same contents o a b (long_mode file x e l) (bad_mode line why y h) = absurd (not_long contents file _ (subst (λ f. IsBadMode (all_told contents) f line why) e h) l)
 mode_answer-same contents o a b (long_mode file x e l) (long_mode other y f k) = x ∙ ap (λ n. TooLong (Mode n)) (same_name o file other e f) ∙ sym y
 
 -- an answer of a schedule's file
 data IsOfScheduleFile (contents : List ℕ → Option (List ℕ)) (o : Option (List ℕ)) (a : Answer) : Type 0 where
-  bad_schedule : (line : ℕ) (cause : ScheduleWhy) → a ≡ ScheduleAt line cause → IsBadSchedule true contents o line cause → IsOfScheduleFile contents o a
-  long_schedule : (file : List ℕ) → a ≡ TooLong (Schedule file) → o ≡ Some file → IsLongFile true contents file → IsOfScheduleFile contents o a
+  bad_schedule : (line : ℕ) (cause : ScheduleWhy) → a ≡ ScheduleAt line cause → IsBadSchedule (all_told contents) o line cause → IsOfScheduleFile contents o a
+  long_schedule : (file : List ℕ) → a ≡ TooLong (Schedule file) → o ≡ Some file → IsLongFile (all_told contents) file → IsOfScheduleFile contents o a
 
 no_schedule_named : (contents : List ℕ → Option (List ℕ)) (o : Option (List ℕ)) (a : Answer) → o ≡ None → IsOfScheduleFile contents o a → ⊥
-no_schedule_named contents o a e (bad_schedule line cause is h) = subst (λ f. IsBadSchedule true contents f line cause) e h
+no_schedule_named contents o a e (bad_schedule line cause is h) = subst (λ f. IsBadSchedule (all_told contents) f line cause) e h
 no_schedule_named contents o a e (long_schedule file is f l) = cc
 
-schedule_or_answer : (contents : List ℕ → Option (List ℕ)) (o : Option (List ℕ)) (bs : List Block) (a : Answer) → IsScheduleBy true contents o bs → IsOfScheduleFile contents o a → ⊥
+schedule_or_answer : (contents : List ℕ → Option (List ℕ)) (o : Option (List ℕ)) (bs : List Block) (a : Answer) → IsScheduleBy (all_told contents) o bs → IsOfScheduleFile contents o a → ⊥
 schedule_or_answer contents o bs a h (bad_schedule line cause is k) = no_bad_schedule contents o bs line cause h k
-schedule_or_answer contents o bs a h (long_schedule file is e l) = not_long contents file _ (subst (λ f. IsScheduleBy true contents f bs) e h) l
+schedule_or_answer contents o bs a h (long_schedule file is e l) = not_long contents file _ (subst (λ f. IsScheduleBy (all_told contents) f bs) e h) l
 
 schedule_answer-same : (contents : List ℕ → Option (List ℕ)) (o : Option (List ℕ)) (a b : Answer) → IsOfScheduleFile contents o a → IsOfScheduleFile contents o b → a ≡ b
 schedule_answer-same contents o a b (bad_schedule line cause x h) (bad_schedule other more y k) = x ∙ one_bad_schedule contents o line other cause more h k ∙ sym y
-schedule_answer-same contents o a b (bad_schedule line cause x h) (long_schedule file y e l) = absurd (not_long contents file _ (subst (λ f. IsBadSchedule true contents f line cause) e h) l)
-schedule_answer-same contents o a b (long_schedule file x e l) (bad_schedule line cause y h) = absurd (not_long contents file _ (subst (λ f. IsBadSchedule true contents f line cause) e h) l)
+schedule_answer-same contents o a b (bad_schedule line cause x h) (long_schedule file y e l) = absurd (not_long contents file _ (subst (λ f. IsBadSchedule (all_told contents) f line cause) e h) l)
+schedule_answer-same contents o a b (long_schedule file x e l) (bad_schedule line cause y h) = absurd (not_long contents file _ (subst (λ f. IsBadSchedule (all_told contents) f line cause) e h) l)
 schedule_answer-same contents o a b (long_schedule file x e l) (long_schedule other y f k) = x ∙ ap (λ n. TooLong (Schedule n)) (same_name o file other e f) ∙ sym y
 
 -- no request names both a mode's file and a schedule's
@@ -332,7 +332,7 @@ not_both_files contents r a b h k = go (one_file_named r)
 data DefinedFor (r : Request) (contents : List ℕ → Option (List ℕ)) (a : Answer) : Type 0 where
   of_mode : IsOfModeFile contents (mode_file r) a → DefinedFor r contents a
   of_schedule : IsOfScheduleFile contents (schedule_file r) a → DefinedFor r contents a
-  of_files : AnswersFiles r true contents a → DefinedFor r contents a
+  of_files : AnswersFiles r (all_told contents) a → DefinedFor r contents a
 
 for_same : (r : Request) (contents : List ℕ → Option (List ℕ)) (a b : Answer) → IsSettled a → IsSettled b → DefinedFor r contents a → DefinedFor r contents b → without_refutation a ≡ without_refutation b
 for_same r contents a b w v (of_mode h) (of_mode k) = ap without_refutation (mode_answer-same contents (mode_file r) a b h k)
@@ -350,7 +350,7 @@ data DefinedBy (o : Option Request) (contents : List ℕ → Option (List ℕ)) 
   no_request : o ≡ None → a ≡ Words → DefinedBy o contents a
   requested : (r : Request) → o ≡ Some r → DefinedFor r contents a → DefinedBy o contents a
 
-defined_by : (o : Option Request) (contents : List ℕ → Option (List ℕ)) (a : Answer) → IsSettled a → AnswersAsked o true contents a → DefinedBy o contents a
+defined_by : (o : Option Request) (contents : List ℕ → Option (List ℕ)) (a : Answer) → IsSettled a → AnswersAsked o (all_told contents) a → DefinedBy o contents a
 defined_by o contents UnreadWords w h = absurd w
 defined_by o contents Memory w h = absurd w
 defined_by o contents (ConflictLimit c) w h = absurd w

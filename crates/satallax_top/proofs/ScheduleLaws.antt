@@ -1,5 +1,6 @@
 -- What is reported of a schedule has the meaning that it claims.
-use Rattle.std.proofs.Common.{◌≡◌, ◌↔◌, ℕ, Bool, List, Option, Some, refl, sym, ap, subst}
+use Rattle.std.proofs.Common.{◌≡◌, ◌↔◌, ℕ, List, Some, refl, sym, ap, subst}
+use Rattle.outside.specs.Seen.{Seen}
 use Rattle.stt_core.specs.PlainProblem.{PlainProblem}
 use Rattle.tableau_calculus.specs.Start.{start}
 use Rattle.tableau_calculus.specs.Literals.{Literal}
@@ -24,12 +25,12 @@ use Rattle.satallax_top.specs.Scheduling.{IsOfRuns, end_outcome, HasScheduleSo}
 use Rattle.satallax_top.proofs.HeadlineLaws.{IsRefusal, FilesAnswered, files_answered}
 
 -- such an answer is given by files
-of_runs-files : (r : Request) (told : Bool) (contents : List ℕ → Option (List ℕ)) (a : Answer) → IsOfRuns (outcome_of a) → AnswersAsked (Some r) told contents a → AnswersFiles r told contents a
-of_runs-files r told contents (Proved Theorem n i tree text) s h = h
-of_runs-files r told contents (Proved Unsatisfiable n i tree text) s h = h
-of_runs-files r told contents (GaveUp n) s h = h
-of_runs-files r told contents (CommandLimit n) s h = h
-of_runs-files r told contents a s h = absurd s
+of_runs-files : (r : Request) (seen : Seen) (a : Answer) → IsOfRuns (outcome_of a) → AnswersAsked (Some r) seen a → AnswersFiles r seen a
+of_runs-files r seen (Proved Theorem n i tree text) s h = h
+of_runs-files r seen (Proved Unsatisfiable n i tree text) s h = h
+of_runs-files r seen (GaveUp n) s h = h
+of_runs-files r seen (CommandLimit n) s h = h
+of_runs-files r seen a s h = absurd s
 
 of_runs-no_refusal : (a : Answer) → IsOfRuns (outcome_of a) → IsRefusal a → ⊥
 of_runs-no_refusal (ReadFault file) s x = s
@@ -71,8 +72,8 @@ proved_exactly p slots literals e ends =
     (λ h. exactly.0 (proved_closed p e h), λ h. closed_told p e (exactly.1 h))
 
 -- files that are answered so
-schedule_of : (words : List (List ℕ)) (told : Bool) (contents : List ℕ → Option (List ℕ)) (a : Answer) (file problem : List ℕ) → asked_by words ≡ Some (by_schedule file problem) → IsOfRuns (outcome_of a) → FilesAnswered (by_schedule file problem) told contents a → HasScheduleSo words told contents file (outcome_of a)
-schedule_of words told contents a file problem asked s f =
+schedule_of : (words : List (List ℕ)) (seen : Seen) (a : Answer) (file problem : List ℕ) → asked_by words ≡ Some (by_schedule file problem) → IsOfRuns (outcome_of a) → FilesAnswered (by_schedule file problem) seen a → HasScheduleSo words seen file (outcome_of a)
+schedule_of words seen a file problem asked s f =
     let p = f.problem in
     let e = end_of_answer f.blocks p a s f.answered in
     record {
@@ -80,15 +81,15 @@ schedule_of words told contents a file problem asked s f =
       are_blocks = f.are_blocks;
       names = f.names;
       problem = p;
-      stated = subst (λ x. OfAsked x told contents f.names (Statements p)) (sym asked) f.stated;
+      stated = subst (λ x. OfAsked x seen f.names (Statements p)) (sym asked) f.stated;
       end = e.end;
       ends = e.ends;
       is_outcome = e.is;
       exactly = subst (λ o. IsProvedOutcome o ↔ ((number : ℕ) × IsProvedRun (slots_for p f.blocks) (start (unfolded_problem p)) number)) (sym e.is) (proved_exactly p (slots_for p f.blocks) (start (unfolded_problem p)) e.end e.ends);
     }
 
-pub schedule_told : (words : List (List ℕ)) (told : Bool) (contents : List ℕ → Option (List ℕ)) (o : Outcome) (a : Answer) → IsAnswer words told contents a → o ≡ outcome_of a → (file problem : List ℕ) → asked_by words ≡ Some (by_schedule file problem) → IsOfRuns o → HasScheduleSo words told contents file o
-schedule_told words told contents o a answer is file problem asked h =
+pub schedule_told : (words : List (List ℕ)) (seen : Seen) (o : Outcome) (a : Answer) → IsAnswer words seen a → o ≡ outcome_of a → (file problem : List ℕ) → asked_by words ≡ Some (by_schedule file problem) → IsOfRuns o → HasScheduleSo words seen file o
+schedule_told words seen o a answer is file problem asked h =
     let s : IsOfRuns (outcome_of a) = subst IsOfRuns is h in
-    let files = of_runs-files (by_schedule file problem) told contents a s (subst (λ x. AnswersAsked x told contents a) asked answer) in
-    subst (HasScheduleSo words told contents file) (sym is) (schedule_of words told contents a file problem asked s (files_answered (by_schedule file problem) told contents a (of_runs-no_refusal a s) files))
+    let files = of_runs-files (by_schedule file problem) seen a s (subst (λ x. AnswersAsked x seen a) asked answer) in
+    subst (HasScheduleSo words seen file) (sym is) (schedule_of words seen a file problem asked s (files_answered (by_schedule file problem) seen a (of_runs-no_refusal a s) files))

@@ -4,6 +4,7 @@ use Rattle.std.proofs.lemmas.Bool.{cases_order}
 use Rattle.std.proofs.lemmas.List.{take-take, length-take}
 use Rattle.std.proofs.lemmas.Option.{slice_get_within}
 use Rattle.std.proofs.Math.Seq.{take-append-add}
+use Rattle.outside.specs.Seen.{Seen}
 use Rattle.thf_grammar.specs.Trees.{StatementTree}
 use Rattle.thf_include.specs.Gathering.{Ending, done, stopped, wants, too_long, no_tree, cycle, too_many, no_name, behind_statements, FileEnds, unread, long, refused, followed, StatementEnds, stays, in_cycle, past_limit, stops, selects, StatementsEnd, no_more, ends, goes_on, IsGathering}
 use Rattle.thf_include.specs.View.{PlacedTree}
@@ -11,6 +12,10 @@ use Rattle.thf_include.specs.Answer.{AreContents}
 use Rattle.thf_include.proofs.Texts.{same-get, same-bytes, take-append}
 use Rattle.thf_include.proofs.SameTexts.{file-same, statement-same}
 use Rattle.thf_include.proofs.OneEnding.{one-file}
+
+-- files that tell these contents
+abbrev pub all_told : (List ℕ → Option (List ℕ)) → Seen
+all_told contents = record { tells = true; contents = contents }
 
 -- no file is wanted at the end
 abbrev pub IsFinal : Ending → Type 0

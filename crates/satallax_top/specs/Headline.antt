@@ -1,6 +1,7 @@
 -- What a reported proof means.
-use Rattle.std.specs.Prelude.{◌≡◌, ◌+◌, ℕ, Bool, List, ◌++◌, filter, slice_get, Option, Some, None}
+use Rattle.std.specs.Prelude.{◌≡◌, ◌+◌, ℕ, List, ◌++◌, filter, slice_get, Option, Some, None}
 use Rattle.outside.specs.Prefix.{AppendsProperly}
+use Rattle.outside.specs.Seen.{Seen}
 use Rattle.stt_core.specs.Meaning.{Model, IsModel}
 use Rattle.stt_core.specs.Meets.{MeetsProblem}
 use Rattle.stt_core.specs.PlainProblem.{PlainProblem}
@@ -31,7 +32,7 @@ use Rattle.szs_report.specs.declared.answer.Answer.{Answer}
 use Rattle.szs_report.specs.declared.answer.Answer.TheVariants.{Proved}
 use Rattle.szs_report.specs.declared.outcome.Outcome.{Outcome}
 use Rattle.szs_report.specs.declared.outcome.Outcome.TheVariants.{Theorem, Unsatisfiable, DemoDone, Accepted, Same, Different, NoEquation, WriteFault}
-use Rattle.request_answers.specs.Requested.{asked_name, problem_name, mode_file, told_of, contents_of}
+use Rattle.request_answers.specs.Requested.{asked_name, problem_name, mode_file, seen_of}
 use Rattle.request_answers.specs.Files.{OfFiles, Statements, StatesProblem}
 use Rattle.request_answers.specs.Modes.{IsModeBy}
 use Rattle.request_answers.specs.Schedules.{IsScheduleBy}
@@ -60,10 +61,10 @@ abbrev pub IsWithoutModel : PlainProblem → Type 0
 IsWithoutModel p = (m : Model) → IsModel (scope_of p.declared) m → MeetsProblem p m → ⊥
 
 -- the problem that the files state has no standard model whose base types are finite
-pub record HasNoModel (words : List (List ℕ)) (told : Bool) (contents : List ℕ → Option (List ℕ)) : Type 0 where
+pub record HasNoModel (words : List (List ℕ)) (seen : Seen) : Type 0 where
   pub names : List (List ℕ)
   pub problem : PlainProblem
-  pub stated : StatesProblem words told contents names problem
+  pub stated : StatesProblem words seen names problem
   pub no_model : IsWithoutModel problem
 
 -- the outcome is of the two sides of a conjecture
@@ -81,10 +82,10 @@ SaysOfSides NoEquation p = AreSidesOf p compared.NoEquation
 SaysOfSides outcome p = ⊥
 
 -- what the outcome says holds of the problem that the files state
-pub record HasSidesSo (words : List (List ℕ)) (told : Bool) (contents : List ℕ → Option (List ℕ)) (outcome : Outcome) : Type 0 where
+pub record HasSidesSo (words : List (List ℕ)) (seen : Seen) (outcome : Outcome) : Type 0 where
   pub names : List (List ℕ)
   pub problem : PlainProblem
-  pub stated : StatesProblem words told contents names problem
+  pub stated : StatesProblem words seen names problem
   pub says : SaysOfSides outcome problem
 
 -- the mode is that of one of the blocks
@@ -92,36 +93,36 @@ abbrev pub IsModeOfSome : List Block → Mode → Type 0
 IsModeOfSome blocks mode = (number : ℕ) × (block : Block) × (slice_get blocks number ≡ Some block) × (mode ≡ block.mode)
 
 -- the mode is one by which a request is run: that of one of the blocks of its schedule, or that of its file, or the standard one
-abbrev pub IsModeAsked : Bool → (List ℕ → Option (List ℕ)) → Request → Mode → Type 0
-IsModeAsked told contents (by_schedule file p) mode = (blocks : List Block) × IsScheduleBy told contents (Some file) blocks × IsModeOfSome blocks mode
-IsModeAsked told contents r mode = IsModeBy told contents (mode_file r) mode
+abbrev pub IsModeAsked : Seen → Request → Mode → Type 0
+IsModeAsked seen (by_schedule file p) mode = (blocks : List Block) × IsScheduleBy seen (Some file) blocks × IsModeOfSome blocks mode
+IsModeAsked seen r mode = IsModeBy seen (mode_file r) mode
 
 -- Whatever problem the files state that a request is about, and by whatever mode it is run: the mode has enough conflicts for the clauses
 -- of each state of the run.
-abbrev pub EnoughAsked : Option Request → Bool → (List ℕ → Option (List ℕ)) → Type 0
-EnoughAsked None told contents = Unit {0}
-EnoughAsked (Some r) told contents =
-    (mode : Mode) (names : List (List ℕ)) (p : PlainProblem) → IsModeAsked told contents r mode → OfFiles (problem_name r) (told_of told r) (contents_of contents r) names (Statements p)
+abbrev pub EnoughAsked : Option Request → Seen → Type 0
+EnoughAsked None seen = Unit {0}
+EnoughAsked (Some r) seen =
+    (mode : Mode) (names : List (List ℕ)) (p : PlainProblem) → IsModeAsked seen r mode → OfFiles (problem_name r) (seen_of seen r) names (Statements p)
     → HasEnoughConflicts (setting_for p mode) (start (unfolded_problem p))
 
-abbrev pub AreConflictsEnough : List (List ℕ) → Bool → (List ℕ → Option (List ℕ)) → Type 0
-AreConflictsEnough words told contents = EnoughAsked (asked_by words) told contents
+abbrev pub AreConflictsEnough : List (List ℕ) → Seen → Type 0
+AreConflictsEnough words seen = EnoughAsked (asked_by words) seen
 
 -- the words ask for the proof of a problem, by this mode, and for a tree without cut of at most so many nodes or for none
-pub record IsAskedBy (words : List (List ℕ)) (told : Bool) (contents : List ℕ → Option (List ℕ)) (mode : Mode) (nodes : Option ℕ) : Type 0 where
+pub record IsAskedBy (words : List (List ℕ)) (seen : Seen) (mode : Mode) (nodes : Option ℕ) : Type 0 where
   pub problem : List ℕ
   pub file : Option (List ℕ)
   pub asked : asked_by words ≡ Some (prove problem file nodes)
-  pub is_mode : IsModeBy told contents file mode
+  pub is_mode : IsModeBy seen file mode
 
 -- The words ask for the proof of a problem by the schedule of a file. Over this problem the schedule is closed after so many commands of
 -- all runs, by the run of the block of this number, counted from 0, whose mode this is.
-pub record IsAskedInTurns (words : List (List ℕ)) (told : Bool) (contents : List ℕ → Option (List ℕ)) (p : PlainProblem) (mode : Mode) (total number : ℕ) : Type 0 where
+pub record IsAskedInTurns (words : List (List ℕ)) (seen : Seen) (p : PlainProblem) (mode : Mode) (total number : ℕ) : Type 0 where
   pub problem : List ℕ
   pub file : List ℕ
   pub asked : asked_by words ≡ Some (by_schedule file problem)
   pub blocks : List Block
-  pub are_blocks : IsScheduleBy told contents (Some file) blocks
+  pub are_blocks : IsScheduleBy seen (Some file) blocks
   pub block : Block
   pub its_block : slice_get blocks number ≡ Some block
   pub its_mode : block.mode ≡ mode
@@ -130,9 +131,9 @@ pub record IsAskedInTurns (words : List (List ℕ)) (told : Bool) (contents : Li
 -- What is reported beside a proof by this mode after n commands. Where the words ask for one mode, that is the number of these commands.
 -- Where they ask for a schedule, it is the number of the commands of all runs, with the number of the mode's block, counted from 1, and no
 -- tree is asked for.
-abbrev pub IsReportedSo : List (List ℕ) → Bool → (List ℕ → Option (List ℕ)) → PlainProblem → Mode → Option ℕ → ℕ → ℕ → Option ℕ → Type 0
-IsReportedSo words told contents p mode nodes n reported None = IsAskedBy words told contents mode nodes × (reported ≡ n)
-IsReportedSo words told contents p mode nodes n reported (Some i) = (nodes ≡ None) × ((number : ℕ) × (i ≡ number + 1) × IsAskedInTurns words told contents p mode reported number)
+abbrev pub IsReportedSo : List (List ℕ) → Seen → PlainProblem → Mode → Option ℕ → ℕ → ℕ → Option ℕ → Type 0
+IsReportedSo words seen p mode nodes n reported None = IsAskedBy words seen mode nodes × (reported ≡ n)
+IsReportedSo words seen p mode nodes n reported (Some i) = (nodes ≡ None) × ((number : ℕ) × (i ≡ number + 1) × IsAskedInTurns words seen p mode reported number)
 
 -- a tree is made whole
 abbrev pub IsTreeMade : Option Stripped → Type 0
@@ -148,17 +149,17 @@ IsTreeMade (Some (stripped.Over nodes)) = ⊥
 -- reported, or under a schedule the number of the commands of all runs, with that of the mode. The refutation is the one that is written,
 -- unless a tree without cut is asked for and comes of the instances that it uses: then that of the tree is, and a check that forbids cuts
 -- accepts the bytes too. No standard model with finite base types meets the problem.
-pub record IsProofReport (words : List (List ℕ)) (told : Bool) (contents : List ℕ → Option (List ℕ)) (outcome : Outcome) (written : List ℕ) : Type 0 where
+pub record IsProofReport (words : List (List ℕ)) (seen : Seen) (outcome : Outcome) (written : List ℕ) : Type 0 where
   pub mode : Mode
   pub nodes : Option ℕ
   pub names : List (List ℕ)
   pub problem : PlainProblem
-  pub stated : StatesProblem words told contents names problem
+  pub stated : StatesProblem words seen names problem
   pub is_outcome : outcome ≡ claim_outcome (claim_of problem)
   pub commands : ℕ
   pub reported : ℕ
   pub number : Option ℕ
-  pub asked : IsReportedSo words told contents problem mode nodes commands reported number
+  pub asked : IsReportedSo words seen problem mode nodes commands reported number
   pub rebuilt : Refutation
   pub refuted : IsRefuted (unfolded_problem problem) mode commands rebuilt
   pub stripped : Option Stripped
@@ -179,25 +180,25 @@ pub record Appends (old new : List ℕ) (R : List ℕ → Type 0) : Type 0 where
   pub is_report : R written
 
 -- an answer of the call with this outcome, and its report
-pub record IsReported (words : List (List ℕ)) (told : Bool) (contents : List ℕ → Option (List ℕ)) (outcome : Outcome) (written : List ℕ) : Type 0 where
+pub record IsReported (words : List (List ℕ)) (seen : Seen) (outcome : Outcome) (written : List ℕ) : Type 0 where
   pub answer : Answer
-  pub is_answer : IsAnswer words told contents answer
+  pub is_answer : IsAnswer words seen answer
   pub is_outcome : outcome ≡ outcome_of answer
   pub is_report : written ≡ report_of (asked_name words) answer
 
 -- a write failed: a proper prefix of the report of an answer was written, and the answer's cause is there
-pub record IsCutShort (words : List (List ℕ)) (told : Bool) (contents : List ℕ → Option (List ℕ)) (before now : List ℕ → ℕ) (old new : List ℕ) : Type 0 where
+pub record IsCutShort (words : List (List ℕ)) (seen : Seen) (before now : List ℕ → ℕ) (old new : List ℕ) : Type 0 where
   pub answer : Answer
-  pub is_answer : IsAnswer words told contents answer
-  pub cause : HasCause words told contents before now (outcome_of answer)
+  pub is_answer : IsAnswer words seen answer
+  pub cause : HasCause words seen before now (outcome_of answer)
   pub appended : AppendsProperly old new (report_of (asked_name words) answer)
 
 -- what the call has written
-abbrev pub IsWritten : List (List ℕ) → Bool → (List ℕ → Option (List ℕ)) → (List ℕ → ℕ) → (List ℕ → ℕ) → List ℕ → List ℕ → Outcome → Type 0
-IsWritten words told contents before now old new WriteFault = IsCutShort words told contents before now old new
-IsWritten words told contents before now old new outcome = Appends old new (IsReported words told contents outcome)
+abbrev pub IsWritten : List (List ℕ) → Seen → (List ℕ → ℕ) → (List ℕ → ℕ) → List ℕ → List ℕ → Outcome → Type 0
+IsWritten words seen before now old new WriteFault = IsCutShort words seen before now old new
+IsWritten words seen before now old new outcome = Appends old new (IsReported words seen outcome)
 
 -- the outcome is that of an answer of the call, unless a write failed
-abbrev pub IsOutcome : List (List ℕ) → Bool → (List ℕ → Option (List ℕ)) → Outcome → Type 0
-IsOutcome words told contents WriteFault = Unit {0}
-IsOutcome words told contents outcome = (answer : Answer) × IsAnswer words told contents answer × (outcome ≡ outcome_of answer)
+abbrev pub IsOutcome : List (List ℕ) → Seen → Outcome → Type 0
+IsOutcome words seen WriteFault = Unit {0}
+IsOutcome words seen outcome = (answer : Answer) × IsAnswer words seen answer × (outcome ≡ outcome_of answer)

@@ -10,6 +10,7 @@ pub use Rattle.mode_schedule.specs.Scheduled
 pub use Rattle.mode_schedule.specs.Turns
 pub use Rattle.outside.specs.Causes as OutsideCauses
 pub use Rattle.outside.specs.Prefix
+pub use Rattle.outside.specs.Seen
 pub use Rattle.prover_run.specs.Ended
 pub use Rattle.prover_run.specs.Learning
 pub use Rattle.refute_print.specs.Named

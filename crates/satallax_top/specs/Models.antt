@@ -1,5 +1,6 @@
 -- What is reported of finite models means what it says.
-use Rattle.std.specs.Prelude.{◌≡◌, ◌<◌, ◌≤◌, ℕ, Bool, List, Option, Some, None}
+use Rattle.std.specs.Prelude.{◌≡◌, ◌<◌, ◌≤◌, ℕ, List, Option, Some, None}
+use Rattle.outside.specs.Seen.{Seen}
 use Rattle.stt_core.specs.Lambda.{Lambda}
 use Rattle.stt_core.specs.Meaning.{Model, IsModel}
 use Rattle.stt_core.specs.Meets.{MeetsProblem}
@@ -52,13 +53,13 @@ SaysOfModels (ModelsTooMany s) upto p = IsSmallFinding p upto (found.TooMany s) 
 SaysOfModels outcome upto p = ⊥
 
 -- The words ask for models within a bound, and what the outcome says holds of the problem that the files state.
-pub record HasModelsSo (words : List (List ℕ)) (told : Bool) (contents : List ℕ → Option (List ℕ)) (outcome : Outcome) : Type 0 where
+pub record HasModelsSo (words : List (List ℕ)) (seen : Seen) (outcome : Outcome) : Type 0 where
   pub upto : ℕ
   pub file : List ℕ
   pub asked : asked_by words ≡ Some (models upto file)
   pub names : List (List ℕ)
   pub problem : PlainProblem
-  pub stated : StatesProblem words told contents names problem
+  pub stated : StatesProblem words seen names problem
   pub says : SaysOfModels outcome upto problem
 
 -- the answer of a model of this size with these lines, for a problem with this conjecture, or with none
@@ -68,10 +69,10 @@ model_answer_by (Some t) s lines = answer.CounterSatisfiable s lines
 
 -- What is written where a model is reported: the values of the problem's symbols in a model of this size that meets the problem that the
 -- files state.
-pub record IsModelReport (words : List (List ℕ)) (told : Bool) (contents : List ℕ → Option (List ℕ)) (outcome : Outcome) (written : List ℕ) : Type 0 where
+pub record IsModelReport (words : List (List ℕ)) (seen : Seen) (outcome : Outcome) (written : List ℕ) : Type 0 where
   pub names : List (List ℕ)
   pub problem : PlainProblem
-  pub stated : StatesProblem words told contents names problem
+  pub stated : StatesProblem words seen names problem
   pub size : ℕ
   pub values : List ℕ
   pub is_model : IsModel (scope_of problem.declared) (model_of size (model_symbols problem) values)

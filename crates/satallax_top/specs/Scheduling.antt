@@ -1,5 +1,6 @@
 -- What a reported end of a schedule means.
-use Rattle.std.specs.Prelude.{◌≡◌, ◌↔◌, ℕ, Bool, List, Option, Some}
+use Rattle.std.specs.Prelude.{◌≡◌, ◌↔◌, ℕ, List, Some}
+use Rattle.outside.specs.Seen.{Seen}
 use Rattle.stt_core.specs.PlainProblem.{PlainProblem}
 use Rattle.tableau_calculus.specs.Start.{start}
 use Rattle.delta_defs.specs.Unfolding.{unfolded_problem}
@@ -31,12 +32,12 @@ end_outcome p (limit total) = CommandLimit total
 
 -- The file states blocks, and the schedule of their runs over the problem that the files state ends as the outcome says: a proof is
 -- reported exactly where the run of some block is proved.
-pub record HasScheduleSo (words : List (List ℕ)) (told : Bool) (contents : List ℕ → Option (List ℕ)) (file : List ℕ) (outcome : Outcome) : Type 0 where
+pub record HasScheduleSo (words : List (List ℕ)) (seen : Seen) (file : List ℕ) (outcome : Outcome) : Type 0 where
   pub blocks : List Block
-  pub are_blocks : IsScheduleBy told contents (Some file) blocks
+  pub are_blocks : IsScheduleBy seen (Some file) blocks
   pub names : List (List ℕ)
   pub problem : PlainProblem
-  pub stated : StatesProblem words told contents names problem
+  pub stated : StatesProblem words seen names problem
   pub end : End
   pub ends : ScheduleEnds (slots_for problem blocks) (start (unfolded_problem problem)) end
   pub is_outcome : outcome ≡ end_outcome problem end

@@ -1,6 +1,7 @@
 //! Laws of the definitions, each as the contract of a function that does nothing.
 
-ghost use Rattle.std.specs.Prelude.{◌≡◌, ℕ, Bool, List, Option};
+ghost use Rattle.std.specs.Prelude.{◌≡◌, ℕ, List, Option};
+ghost use Rattle.outside.specs.Seen.{Seen};
 ghost use Rattle.stt_core.specs.PlainProblem.{PlainProblem};
 ghost use Rattle.mode_file.specs.declared.Mode.{Mode};
 ghost use Rattle.mode_schedule.specs.declared.Block.{Block};
@@ -28,8 +29,8 @@ pub fn one_answer()
 
 /// Where the mode has enough conflicts for all clauses over the atoms of each state of the run, it isn't answered that they are spent.
 pub fn enough_is_never_spent()
-    ensures { (words : List (List ℕ)) (told : Bool) (contents : List ℕ → Option (List ℕ)) (conflicts : ℕ) → AreConflictsEnough words told contents
-        → IsAnswer words told contents (ConflictLimit conflicts) → ⊥ }
+    ensures { (words : List (List ℕ)) (seen : Seen) (conflicts : ℕ) → AreConflictsEnough words seen
+        → IsAnswer words seen (ConflictLimit conflicts) → ⊥ }
 {}
 
 /// Where a proof is reported by a mode that has no conflicts, unit propagation over the clauses of the search reaches a false clause. A run

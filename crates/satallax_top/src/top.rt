@@ -27,13 +27,12 @@ struct Called {
 
 /// The answer to the words.
 fn call<F: Files>(alloc: Global, words: &Words, files: &mut F) -> Called
-    ensures answers { IsAnswer words.now (F.tells files.old) (F.contents files.old) result.answer }
+    ensures answers { IsAnswer words.now (F.seen files.old) result.answer }
     ensures reported { report_of (string_bytes result.name) result.answer ≡ report_of (asked_name words.now) result.answer }
-    ensures cause { HasCause words.now (F.tells files.old) (F.contents files.old) (F.faults files.old) (F.faults files.new) (outcome_of result.answer) }
+    ensures cause { HasCause words.now (F.seen files.old) (F.faults files.old) (F.faults files.new) (outcome_of result.answer) }
 
     ensures later { (other : List ℕ) → F.faults files.old other ≤ F.faults files.new other }
-    ensures same { F.contents files.new ≡ F.contents files.old }
-    ensures telling { F.tells files.new ≡ F.tells files.old }
+    ensures same { F.seen files.new ≡ F.seen files.old }
 {
     let unnamed = String::new(alloc);
     match read_words(alloc, words) {
@@ -68,57 +67,55 @@ pub fn satallax<F: Files, S: Sink>(
     out: &mut S,
 ) -> Outcome
     // The outcome is that of an answer for these words and for the contents of the files that they name.
-    ensures outcome { IsOutcome words.now (F.tells files.old) (F.contents files.old) result }
+    ensures outcome { IsOutcome words.now (F.seen files.old) result }
 
     // What is written is the report of the outcome, or where a write failed a proper prefix of the report of an answer whose cause is
     // there.
     ensures bytes { IsTrue (S.tells out.old)
-        → IsWritten words.now (F.tells files.old) (F.contents files.old) (F.faults files.old) (F.faults files.new) (S.written out.old) (S.written out.new) result }
+        → IsWritten words.now (F.seen files.old) (F.faults files.old) (F.faults files.new) (S.written out.old) (S.written out.new) result }
 
     // Where a proof is reported, what is written holds one refutation, the one that was found. It is accepted: so the check of these bytes
     // accepts them, its tableau is closed, and no model meets the problem. After the reported number of commands, and not before, the
     // clauses of the search are unsatisfiable; under a schedule, after a number of commands of the run that closes it.
     ensures proof { IsTrue (S.tells out.old) → IsProvedOutcome result
-        → Appends (S.written out.old) (S.written out.new) (IsProofReport words.now (F.tells files.old) (F.contents files.old) result) }
+        → Appends (S.written out.old) (S.written out.new) (IsProofReport words.now (F.seen files.old) result) }
 
     // Where a schedule is asked for and its runs end it, a proof is reported exactly where the run of some block is proved, and else how
     // the schedule ends.
     ensures schedule { (file problem : List ℕ) → asked_by words.now ≡ Some (by_schedule file problem) → IsOfRuns result
-        → HasScheduleSo words.now (F.tells files.old) (F.contents files.old) file result }
+        → HasScheduleSo words.now (F.seen files.old) file result }
 
     // Where a proof is reported, of the problem in a file or of a generated one, or a text is accepted, no model meets the problem.
-    ensures no_model { ShowsNoModel result → HasNoModel words.now (F.tells files.old) (F.contents files.old) }
+    ensures no_model { ShowsNoModel result → HasNoModel words.now (F.seen files.old) }
 
     // Where a finite model is reported, what is written gives the values of the problem's symbols in a model that meets the problem.
     ensures model { IsTrue (S.tells out.old) → IsModelOutcome result
-        → Appends (S.written out.old) (S.written out.new) (IsModelReport words.now (F.tells files.old) (F.contents files.old) result) }
+        → Appends (S.written out.old) (S.written out.new) (IsModelReport words.now (F.seen files.old) result) }
 
     // What is said of finite models holds: there is one, there is none within the bound, or there is too much to look at.
-    ensures models { IsOfModels result → HasModelsSo words.now (F.tells files.old) (F.contents files.old) result }
+    ensures models { IsOfModels result → HasModelsSo words.now (F.seen files.old) result }
 
     // What is said of the two sides of a conjecture holds: they are convertible, they aren't, or it is no equation.
-    ensures sides { IsOfSides result → HasSidesSo words.now (F.tells files.old) (F.contents files.old) result }
+    ensures sides { IsOfSides result → HasSidesSo words.now (F.seen files.old) result }
 
     // The causes of what doesn't hang on contents. A fault is answered exactly where a call of the files or of the sink counted one.
     ensures words { result ≡ Outcome.Words → asked_by words.now ≡ None }
-    ensures read { IsNoWriteFault result
-        → HasCause words.now (F.tells files.old) (F.contents files.old) (F.faults files.old) (F.faults files.new) result }
+    ensures read { IsNoWriteFault result → HasCause words.now (F.seen files.old) (F.faults files.old) (F.faults files.new) result }
     ensures write { result ≡ Outcome.WriteFault → Rose (S.faults out.old) (S.faults out.new) }
     ensures quiet { IsNoWriteFault result → S.faults out.new ≡ S.faults out.old }
 
-    // Told contents stay, files and sink go on to tell, and no count of faults falls.
-    ensures same { F.contents files.new ≡ F.contents files.old }
-    ensures telling { F.tells files.new ≡ F.tells files.old }
+    // What is known of the files stays, the sink goes on to tell, and no count of faults falls.
+    ensures same { F.seen files.new ≡ F.seen files.old }
     ensures later { (other : List ℕ) → F.faults files.old other ≤ F.faults files.new other }
     ensures out_telling { IsTrue (S.tells out.old) → IsTrue (S.tells out.new) }
     ensures out_later { S.faults out.old ≤ S.faults out.new }
 
     // Where contents are told and no count of faults rises, the outcome is that of the defined answer, or memory ran out, or the conflicts
     // were spent.
-    ensures complete { IsTrue (F.tells files.old)
+    ensures complete { IsTrue (F.seen files.old).tells
         → ((file : List ℕ) → Rose (F.faults files.old file) (F.faults files.new file) → ⊥)
         → (Rose (S.faults out.old) (S.faults out.new) → ⊥)
-        → IsDefined words.now (F.contents files.old) result }
+        → IsDefined words.now (F.seen files.old).contents result }
 {
     let called = call(alloc, words, files);
     match write_report(out, called.name.as_bytes(), &called.answer) {

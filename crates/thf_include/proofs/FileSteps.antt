@@ -1,9 +1,10 @@
 -- The step of a file.
-use Rattle.std.proofs.Common.{◌≡◌, ℕ, zero, suc, ◌+◌, ◌-◌, ◌<◌, ◌≤◌, Bool, ◌⊎◌, inl, inr, IsTrue, List, [], ◌∷◌, ◌++◌, length, take, slice_get, Option, Some, Result, Ok, Err, refl, sym, ap, subst, ◌∙◌, append_assoc, length-append, arith}
+use Rattle.std.proofs.Common.{◌≡◌, ℕ, zero, suc, ◌+◌, ◌-◌, ◌<◌, ◌≤◌, ◌⊎◌, inl, inr, IsTrue, List, [], ◌∷◌, ◌++◌, length, take, slice_get, Some, Result, Ok, Err, refl, sym, ap, subst, ◌∙◌, append_assoc, length-append, arith}
 use Rattle.std.proofs.lemmas.List.{append-nil}
 use Rattle.std.proofs.Math.Seq.{take-append-add}
 use Rattle.thf_grammar.specs.Trees.{StatementTree}
 use Rattle.outside.specs.Limits.{byte_limit}
+use Rattle.outside.specs.Seen.{Seen}
 use Rattle.thf_include.specs.declared.opened.Opened.{Opened}
 use Rattle.thf_include.specs.declared.refused.GatherRefused.{GatherRefused}
 use Rattle.thf_include.specs.declared.refused.GatherRefused.TheVariants.{Fault, TooLong, Syntax, Cycle, NoSuchName, TooMany, Memory}
@@ -41,8 +42,8 @@ read-more texts text name old new names left r =
     }
 
 -- a step that opens nothing
-pub still-step : {T : Type 0} (tells : Bool) (contents : List ℕ → Option (List ℕ)) (R : List (List ℕ) → List (List ℕ) → Ending → Type 0) (texts : List (List ℕ)) (opened : Opened) (before after : List PlacedTree) (answer : Result T GatherRefused) → StepsEndAs R texts [] opened before after answer → IsStep tells contents R texts opened opened before after answer
-still-step tells contents R texts opened before after answer h = record {
+pub still-step : {T : Type 0} (seen : Seen) (R : List (List ℕ) → List (List ℕ) → Ending → Type 0) (texts : List (List ℕ)) (opened : Opened) (before after : List PlacedTree) (answer : Result T GatherRefused) → StepsEndAs R texts [] opened before after answer → IsStep seen R texts opened opened before after answer
+still-step seen R texts opened before after answer h = record {
   more = [];
   names = [];
   opened = sym (append-nil opened.names);
@@ -51,15 +52,15 @@ still-step tells contents R texts opened before after answer h = record {
 }
 
 -- a step that was done, where memory runs out then
-pub cut-step : {T : Type 0} (tells : Bool) (contents : List ℕ → Option (List ℕ)) (R : List (List ℕ) → List (List ℕ) → Ending → Type 0) (texts more names : List (List ℕ)) (old new : Opened) (before after : List PlacedTree)
-    → AreRead texts old → new.names ≡ old.names ++ names → (IsTrue tells → AreContents contents names more) → 0 < length names
+pub cut-step : {T : Type 0} (seen : Seen) (R : List (List ℕ) → List (List ℕ) → Ending → Type 0) (texts more names : List (List ℕ)) (old new : Opened) (before after : List PlacedTree)
+    → AreRead texts old → new.names ≡ old.names ++ names → (IsTrue seen.tells → AreContents seen.contents names more) → 0 < length names
     → ((m : ℕ) → length old.names + length names ≡ m + 1 → R (take m (texts ++ more)) names (stopped (wants m)))
-    → IsStep {T = T} tells contents R texts old new before after (Err Memory)
-cut-step tells contents R texts more names old new before after r opened told some cut = record {
+    → IsStep {T = T} seen R texts old new before after (Err Memory)
+cut-step seen R texts more names old new before after r opened told some cut = record {
   more = take (length names - 1) more;
   names = names;
   opened = opened;
-  told = λ t. AreContents-take contents names more (length names - 1) (told t);
+  told = λ t. AreContents-take seen.contents names more (length names - 1) (told t);
   ends = inr (subst (λ all. R all names (stopped (wants (length new.names - 1)))) (ap (λ k. take k (texts ++ more)) width ∙ take-append-add texts more (length names - 1)) (cut (length new.names - 1) total));
 }
   where
@@ -72,14 +73,14 @@ cut-step tells contents R texts more names old new before after r opened told so
     width : length new.names - 1 ≡ length texts + (length names - 1)
     width = omega (arith, both, some, r.each)
 
-module _ (tells : Bool) (contents : List ℕ → Option (List ℕ)) (chain : List (List ℕ)) (name : List ℕ) (old new : Opened) where
+module _ (seen : Seen) (chain : List (List ℕ)) (name : List ℕ) (old new : Opened) where
   wanted : (texts : List (List ℕ)) (file : ℕ) → file ≡ length old.names → AreRead texts old → FileEnds (texts ++ []) chain (length old.names) name (name ∷ []) (stopped (wants file))
   wanted texts file e r =
       subst (λ k. FileEnds (texts ++ []) chain (length old.names) name (name ∷ []) (stopped (wants k))) (sym e)
       (unread chain (length old.names) name (omega (arith, r.each, length-append texts [])))
 
   -- memory runs out when the file was opened
-  opened-step : {T : Type 0} (before after : List PlacedTree) (names : List (List ℕ)) → names ≡ [] → new.names ≡ (old.names ++ name ∷ []) ++ names → FileSteps {T = T} tells contents chain name old new before after (Err Memory)
+  opened-step : {T : Type 0} (before after : List PlacedTree) (names : List (List ℕ)) → names ≡ [] → new.names ≡ (old.names ++ name ∷ []) ++ names → FileSteps {T = T} seen chain name old new before after (Err Memory)
   opened-step before after names none opened texts r =
       let one : new.names ≡ old.names ++ name ∷ [] = opened ∙ ap (λ ns. (old.names ++ name ∷ []) ++ ns) none ∙ append-nil (old.names ++ name ∷ []) in
       record {
@@ -91,7 +92,7 @@ module _ (tells : Bool) (contents : List ℕ → Option (List ℕ)) (chain : Lis
       }
 
   -- the file isn't read
-  pub read-refused : {T : Type 0} (before after : List PlacedTree) (e : GatherRefused) → IsReadRefusal tells contents name old.names new.names old.left e → FileSteps {T = T} tells contents chain name old new before after (Err e)
+  pub read-refused : {T : Type 0} (before after : List PlacedTree) (e : GatherRefused) → IsReadRefusal seen name old.names new.names old.left e → FileSteps {T = T} seen chain name old new before after (Err e)
   read-refused before after (Fault file) h texts r = record {
     more = [];
     names = name ∷ [];
@@ -124,12 +125,12 @@ module _ (tells : Bool) (contents : List ℕ → Option (List ℕ)) (chain : Lis
   read-refused before after (TooMany file at) h texts r = absurd h
 
 -- the file is read, and has this text
-module _ (tells : Bool) (contents : List ℕ → Option (List ℕ)) (chain : List (List ℕ)) (name text : List ℕ) (old mid : Opened) (file : ℕ)
-    (number : file ≡ length old.names) (names : mid.names ≡ old.names ++ name ∷ []) (left : mid.left + length text ≡ old.left) (told : IsTrue tells → contents name ≡ Some text) where
+module _ (seen : Seen) (chain : List (List ℕ)) (name text : List ℕ) (old mid : Opened) (file : ℕ)
+    (number : file ≡ length old.names) (names : mid.names ≡ old.names ++ name ∷ []) (left : mid.left + length text ≡ old.left) (told : IsTrue seen.tells → seen.contents name ≡ Some text) where
   fits : (texts : List (List ℕ)) → AreRead texts old → bytes_of (texts ++ text ∷ []) (length old.names + 1) ≤ byte_limit
   fits texts r = omega (arith, r.bytes, left, bytes-here texts text (length old.names) (sym r.each))
 
-  pub text-refused : {T : Type 0} (before after : List PlacedTree) (e : GatherRefused) → IsTextRefusal text file e → FileSteps {T = T} tells contents chain name old mid before after (Err e)
+  pub text-refused : {T : Type 0} (before after : List PlacedTree) (e : GatherRefused) → IsTextRefusal text file e → FileSteps {T = T} seen chain name old mid before after (Err e)
   text-refused before after (Syntax k at) h texts r = record {
     more = text ∷ [];
     names = name ∷ [];
@@ -139,7 +140,7 @@ module _ (tells : Bool) (contents : List ℕ → Option (List ℕ)) (chain : Lis
         subst (λ n. FileEnds (texts ++ text ∷ []) chain (length old.names) name (name ∷ []) (stopped (no_tree n at))) (sym (h.0 ∙ number))
         (refused chain (length old.names) at name text (here texts text (length old.names) (sym r.each)) (fits texts r) h.1);
   }
-  text-refused before after Memory h texts r = opened-step tells contents chain name old mid before after [] refl (names ∙ sym (append-nil (old.names ++ name ∷ []))) texts r
+  text-refused before after Memory h texts r = opened-step seen chain name old mid before after [] refl (names ∙ sym (append-nil (old.names ++ name ∷ []))) texts r
   text-refused before after (Fault k) h texts r = absurd h
   text-refused before after (TooLong k) h texts r = absurd h
   text-refused before after (Cycle k at) h texts r = absurd h
@@ -172,7 +173,7 @@ module _ (tells : Bool) (contents : List ℕ → Option (List ℕ)) (chain : Lis
     opens : (opened : List (List ℕ)) → new.names ≡ mid.names ++ opened → new.names ≡ old.names ++ (name ∷ opened)
     opens opened e = e ∙ ap (λ ns. ns ++ opened) names ∙ append_assoc old.names (name ∷ []) opened
 
-    pub file-follows : {T : Type 0} (answer : Result T GatherRefused) → StatementsStep tells contents (name ∷ chain) file tree mid new before after answer → FileSteps tells contents chain name old new before after answer
+    pub file-follows : {T : Type 0} (answer : Result T GatherRefused) → StatementsStep seen (name ∷ chain) file tree mid new before after answer → FileSteps seen chain name old new before after answer
     file-follows (Ok u) h texts r =
         let s = h (texts ++ text ∷ []) (read-more texts text name old mid names left r) in
         record {
@@ -189,7 +190,7 @@ module _ (tells : Bool) (contents : List ℕ → Option (List ℕ)) (chain : Lis
         }
     file-follows {T} (Err e) h texts r = go (StopsAs-cases Q (s.names ≡ []) new.names e s.ends)
       where
-        s : IsStep {T = T} tells contents (λ all ns ending. StatementsEnd all (name ∷ chain) file (length mid.names) tree ns ending) (texts ++ text ∷ []) mid new before after (Err e)
+        s : IsStep {T = T} seen (λ all ns ending. StatementsEnd all (name ∷ chain) file (length mid.names) tree ns ending) (texts ++ text ∷ []) mid new before after (Err e)
         s = h (texts ++ text ∷ []) (read-more texts text name old mid names left r)
 
         Q : Stop → Type 0
@@ -198,10 +199,10 @@ module _ (tells : Bool) (contents : List ℕ → Option (List ℕ)) (chain : Lis
         P : Stop → Type 0
         P why = FileEnds (texts ++ (text ∷ s.more)) chain (length old.names) name (name ∷ s.names) (stopped why)
 
-        go : ((s.names ≡ []) × (e ≡ Memory)) ⊎ StopsAs Q ⊥ new.names e → IsStep {T = T} tells contents (λ all ns ending. FileEnds all chain (length old.names) name ns ending) texts old new before after (Err e)
+        go : ((s.names ≡ []) × (e ≡ Memory)) ⊎ StopsAs Q ⊥ new.names e → IsStep {T = T} seen (λ all ns ending. FileEnds all chain (length old.names) name ns ending) texts old new before after (Err e)
         go (inl (none, memory)) =
-            subst (λ w. IsStep {T = T} tells contents (λ all ns ending. FileEnds all chain (length old.names) name ns ending) texts old new before after (Err w)) (sym memory)
-            (opened-step tells contents chain name old new before after s.names none (s.opened ∙ ap (λ ns. ns ++ s.names) names) texts r)
+            subst (λ w. IsStep {T = T} seen (λ all ns ending. FileEnds all chain (length old.names) name ns ending) texts old new before after (Err w)) (sym memory)
+            (opened-step seen chain name old new before after s.names none (s.opened ∙ ap (λ ns. ns ++ s.names) names) texts r)
         go (inr stops) = record {
           more = text ∷ s.more;
           names = name ∷ s.names;

@@ -1,7 +1,8 @@
 -- The steps of statements and of includes.
-use Rattle.std.proofs.Common.{◌≡◌, ℕ, ◌+◌, ◌<◌, ◌≤◌, Bool, ◌⊎◌, inl, inr, IsTrue, List, [], ◌∷◌, ◌++◌, length, take, Option, Some, None, Result, Ok, Err, refl, sym, ap, subst, ◌∙◌, append_assoc, length-append, arith}
+use Rattle.std.proofs.Common.{◌≡◌, ℕ, ◌+◌, ◌<◌, ◌≤◌, ◌⊎◌, inl, inr, IsTrue, List, [], ◌∷◌, ◌++◌, length, take, Option, Some, None, Result, Ok, Err, refl, sym, ap, subst, ◌∙◌, append_assoc, length-append, arith}
 use Rattle.std.specs.Prelude.{Contains}
 use Rattle.std.proofs.lemmas.List.{append-nil}
+use Rattle.outside.specs.Seen.{Seen}
 use Rattle.thf_grammar.specs.Trees.{AnnotatedTree, SelectedTree, StatementTree, annotated, include}
 use Rattle.thf_include.specs.Gathering.{file_limit, Stop, Ending, done, stopped, wants, no_name, behind_statements, placed_statement, select, FileEnds, unread, long, refused, followed, StatementEnds, stays, in_cycle, past_limit, stops, selects, StatementsEnd, no_more, ends, goes_on}
 use Rattle.thf_include.specs.declared.opened.Opened.{Opened}
@@ -64,10 +65,10 @@ module _ (texts chain : List (List ℕ)) (file : ℕ) where
       (goes_on chain opened [] file next s [] ps (done []) h (no_more chain file (next + length opened))))
 
 -- the step of one more statement, behind those of others
-module _ (tells : Bool) (contents : List ℕ → Option (List ℕ)) (chain : List (List ℕ)) (file : ℕ) (front : List StatementTree) (s : StatementTree) (old mid new : Opened) (before between after : List PlacedTree)
-    (so_far : StatementsStep tells contents chain file front old mid before between (Ok (tt {0}))) where
+module _ (seen : Seen) (chain : List (List ℕ)) (file : ℕ) (front : List StatementTree) (s : StatementTree) (old mid new : Opened) (before between after : List PlacedTree)
+    (so_far : StatementsStep seen chain file front old mid before between (Ok (tt {0}))) where
   module _ (texts : List (List ℕ)) (r : AreRead texts old) where
-    abbrev p : IsStep tells contents (λ all ns ending. StatementsEnd all chain file (length old.names) front ns ending) texts old mid before between (Ok (tt {0}))
+    abbrev p : IsStep seen (λ all ns ending. StatementsEnd all chain file (length old.names) front ns ending) texts old mid before between (Ok (tt {0}))
     p = so_far texts r
 
     -- each name has its text
@@ -77,15 +78,15 @@ module _ (tells : Bool) (contents : List ℕ → Option (List ℕ)) (chain : Lis
     next : length mid.names ≡ length old.names + length p.names
     next = ap length p.opened ∙ length-append old.names p.names
 
-    module _ (more names : List (List ℕ)) (opened : new.names ≡ mid.names ++ names) (told : IsTrue tells → AreContents contents names more) where
+    module _ (more names : List (List ℕ)) (opened : new.names ≡ mid.names ++ names) (told : IsTrue seen.tells → AreContents seen.contents names more) where
       whole : (texts ++ p.more) ++ more ≡ texts ++ (p.more ++ more)
       whole = append_assoc texts p.more more
 
       both-opened : new.names ≡ old.names ++ (p.names ++ names)
       both-opened = opened ∙ ap (λ ns. ns ++ names) p.opened ∙ append_assoc old.names p.names names
 
-      both-told : IsTrue tells → AreContents contents (p.names ++ names) (p.more ++ more)
-      both-told t = AreContents-append contents p.names names p.more more as-many (p.told t) (told t)
+      both-told : IsTrue seen.tells → AreContents seen.contents (p.names ++ names) (p.more ++ more)
+      both-told t = AreContents-append seen.contents p.names names p.more more as-many (p.told t) (told t)
 
       first : StatementsEnd ((texts ++ p.more) ++ more) chain file (length old.names) front p.names (done p.ends.statements)
       first =
@@ -100,18 +101,18 @@ module _ (tells : Bool) (contents : List ℕ → Option (List ℕ)) (chain : Lis
           (subst (λ n. StatementsEnd ((texts ++ p.more) ++ more) chain file n rest names ending) next h))
 
     -- memory runs out after the statements in front
-    front-cut : {T : Type 0} (rest : List StatementTree) (last : List PlacedTree) → new.names ≡ mid.names → IsStep {T = T} tells contents (λ all ns ending. StatementsEnd all chain file (length old.names) (front ++ rest) ns ending) texts old new before last (Err Memory)
+    front-cut : {T : Type 0} (rest : List StatementTree) (last : List PlacedTree) → new.names ≡ mid.names → IsStep {T = T} seen (λ all ns ending. StatementsEnd all chain file (length old.names) (front ++ rest) ns ending) texts old new before last (Err Memory)
     front-cut {T} rest last same = go p.names refl
       where
-        go : (ns : List (List ℕ)) → p.names ≡ ns → IsStep {T = T} tells contents (λ all ns ending. StatementsEnd all chain file (length old.names) (front ++ rest) ns ending) texts old new before last (Err Memory)
+        go : (ns : List (List ℕ)) → p.names ≡ ns → IsStep {T = T} seen (λ all ns ending. StatementsEnd all chain file (length old.names) (front ++ rest) ns ending) texts old new before last (Err Memory)
         go [] e = record { more = []; names = []; opened = same ∙ p.opened ∙ ap (λ ns. old.names ++ ns) e; told = λ _. tt; ends = inl refl }
         go (n ∷ ns) e =
             let some : 0 < length p.names = omega (arith, ap length e) in
-            cut-step tells contents (λ all ns ending. StatementsEnd all chain file (length old.names) (front ++ rest) ns ending) texts p.more p.names old new before last r (same ∙ p.opened) p.told some
+            cut-step seen (λ all ns ending. StatementsEnd all chain file (length old.names) (front ++ rest) ns ending) texts p.more p.names old new before last r (same ∙ p.opened) p.told some
             (λ m total. statements-stop (take m (texts ++ p.more)) chain file (length old.names) front p.names (stopped (wants m))
             (statements-cut m (texts ++ p.more) chain file (length old.names) front p.names (done p.ends.statements) total some p.ends.ended) (wants m) refl rest)
 
-    statement-done : {T : Type 0} (u : T) → IsStep tells contents (λ all ns ending. StatementEnds all chain file (length mid.names) s ns ending) (texts ++ p.more) mid new between after (Ok u) → IsStep tells contents (λ all ns ending. StatementsEnd all chain file (length old.names) (front ++ s ∷ []) ns ending) texts old new before after (Ok (tt {0}))
+    statement-done : {T : Type 0} (u : T) → IsStep seen (λ all ns ending. StatementEnds all chain file (length mid.names) s ns ending) (texts ++ p.more) mid new between after (Ok u) → IsStep seen (λ all ns ending. StatementsEnd all chain file (length old.names) (front ++ s ∷ []) ns ending) texts old new before after (Ok (tt {0}))
     statement-done u q = record {
       more = p.more ++ q.more;
       names = p.names ++ q.names;
@@ -125,7 +126,7 @@ module _ (tells : Bool) (contents : List ℕ → Option (List ℕ)) (chain : Lis
       };
     }
 
-    statement-stopped : {T V : Type 0} (e : GatherRefused) (rest : List StatementTree) (last : List PlacedTree) → IsStep {T = T} tells contents (λ all ns ending. StatementEnds all chain file (length mid.names) s ns ending) (texts ++ p.more) mid new between after (Err e) → IsStep {T = V} tells contents (λ all ns ending. StatementsEnd all chain file (length old.names) (front ++ s ∷ rest) ns ending) texts old new before last (Err e)
+    statement-stopped : {T V : Type 0} (e : GatherRefused) (rest : List StatementTree) (last : List PlacedTree) → IsStep {T = T} seen (λ all ns ending. StatementEnds all chain file (length mid.names) s ns ending) (texts ++ p.more) mid new between after (Err e) → IsStep {T = V} seen (λ all ns ending. StatementsEnd all chain file (length old.names) (front ++ s ∷ rest) ns ending) texts old new before last (Err e)
     statement-stopped {T} {V} e rest last q = go (StopsAs-cases Q (q.names ≡ []) new.names e q.ends)
       where
         Q : Stop → Type 0
@@ -134,9 +135,9 @@ module _ (tells : Bool) (contents : List ℕ → Option (List ℕ)) (chain : Lis
         P : Stop → Type 0
         P why = StatementsEnd (texts ++ (p.more ++ q.more)) chain file (length old.names) (front ++ s ∷ rest) (p.names ++ q.names) (stopped why)
 
-        go : ((q.names ≡ []) × (e ≡ Memory)) ⊎ StopsAs Q ⊥ new.names e → IsStep {T = V} tells contents (λ all ns ending. StatementsEnd all chain file (length old.names) (front ++ s ∷ rest) ns ending) texts old new before last (Err e)
+        go : ((q.names ≡ []) × (e ≡ Memory)) ⊎ StopsAs Q ⊥ new.names e → IsStep {T = V} seen (λ all ns ending. StatementsEnd all chain file (length old.names) (front ++ s ∷ rest) ns ending) texts old new before last (Err e)
         go (inl (none, memory)) =
-            subst (λ w. IsStep {T = V} tells contents (λ all ns ending. StatementsEnd all chain file (length old.names) (front ++ s ∷ rest) ns ending) texts old new before last (Err w)) (sym memory)
+            subst (λ w. IsStep {T = V} seen (λ all ns ending. StatementsEnd all chain file (length old.names) (front ++ s ∷ rest) ns ending) texts old new before last (Err w)) (sym memory)
             (front-cut (s ∷ rest) last (q.opened ∙ ap (λ ns. mid.names ++ ns) none ∙ append-nil mid.names))
         go (inr stop) = record {
           more = p.more ++ q.more;
@@ -146,10 +147,10 @@ module _ (tells : Bool) (contents : List ℕ → Option (List ℕ)) (chain : Lis
           ends = StopsAs-map Q P ⊥ (p.names ++ q.names ≡ []) new.names e (λ why k. together q.more q.names q.opened q.told (s ∷ rest) (stopped why) (ends chain q.names file (length mid.names) s rest why k)) (λ no. absurd no) stop;
         }
 
-  pub next-statement : {T : Type 0} (u : T) → StatementSteps tells contents chain file s mid new between after (Ok u) → StatementsStep tells contents chain file (front ++ s ∷ []) old new before after (Ok (tt {0}))
+  pub next-statement : {T : Type 0} (u : T) → StatementSteps seen chain file s mid new between after (Ok u) → StatementsStep seen chain file (front ++ s ∷ []) old new before after (Ok (tt {0}))
   next-statement u h texts r = let q = so_far texts r in statement-done texts r u (h (texts ++ q.more) q.ends.read)
 
-  pub last-statement : {T V : Type 0} (e : GatherRefused) (rest : List StatementTree) (last : List PlacedTree) → StatementSteps {T = T} tells contents chain file s mid new between after (Err e) → StatementsStep {T = V} tells contents chain file (front ++ s ∷ rest) old new before last (Err e)
+  pub last-statement : {T V : Type 0} (e : GatherRefused) (rest : List StatementTree) (last : List PlacedTree) → StatementSteps {T = T} seen chain file s mid new between after (Err e) → StatementsStep {T = V} seen chain file (front ++ s ∷ rest) old new before last (Err e)
   last-statement e rest last h texts r = let q = so_far texts r in statement-stopped texts r e rest last (h (texts ++ q.more) q.ends.read)
 
 -- a file is opened
@@ -160,8 +161,8 @@ file-some texts _ _ _ _ _ (refused chain file at name text get within is) = omeg
 file-some texts _ _ _ _ _ (followed chain opened file name text tree ending get within is inside) = omega arith
 
 -- an include whose file is opened
-module _ (tells : Bool) (contents : List ℕ → Option (List ℕ)) (chain : List (List ℕ)) (file at : ℕ) (name : List ℕ) (old new : Opened) (apart : Contains chain name → ⊥) (room : length old.names < file_limit) where
-  pub include-stopped : {T V : Type 0} (only : Option (List SelectedTree)) (before after from to : List PlacedTree) (e : GatherRefused) → FileSteps {T = T} tells contents chain name old new before after (Err e) → StatementSteps {T = V} tells contents chain file (include at name only) old new from to (Err e)
+module _ (seen : Seen) (chain : List (List ℕ)) (file at : ℕ) (name : List ℕ) (old new : Opened) (apart : Contains chain name → ⊥) (room : length old.names < file_limit) where
+  pub include-stopped : {T V : Type 0} (only : Option (List SelectedTree)) (before after from to : List PlacedTree) (e : GatherRefused) → FileSteps {T = T} seen chain name old new before after (Err e) → StatementSteps {T = V} seen chain file (include at name only) old new from to (Err e)
   include-stopped {T} only before after from to e h texts r = record {
     more = s.more;
     names = s.names;
@@ -170,7 +171,7 @@ module _ (tells : Bool) (contents : List ℕ → Option (List ℕ)) (chain : Lis
     ends = StopsAs-map Q P (s.names ≡ []) (s.names ≡ []) new.names e (λ why k. stops chain s.names file (length old.names) at name only why apart room k) (λ none. none) s.ends;
   }
     where
-      s : IsStep {T = T} tells contents (λ all ns ending. FileEnds all chain (length old.names) name ns ending) texts old new before after (Err e)
+      s : IsStep {T = T} seen (λ all ns ending. FileEnds all chain (length old.names) name ns ending) texts old new before after (Err e)
       s = h texts r
 
       Q : Stop → Type 0
@@ -180,7 +181,7 @@ module _ (tells : Bool) (contents : List ℕ → Option (List ℕ)) (chain : Lis
       P why = StatementEnds (texts ++ s.more) chain file (length old.names) (include at name only) s.names (stopped why)
 
   -- without a selection
-  pub include-whole : {T : Type 0} (before after : List PlacedTree) (answer : Result T GatherRefused) → FileSteps tells contents chain name old new before after answer → StatementSteps tells contents chain file (include at name None) old new before after answer
+  pub include-whole : {T : Type 0} (before after : List PlacedTree) (answer : Result T GatherRefused) → FileSteps seen chain name old new before after answer → StatementSteps seen chain file (include at name None) old new before after answer
   include-whole before after (Ok u) h texts r =
       let s = h texts r in
       record {
@@ -198,9 +199,9 @@ module _ (tells : Bool) (contents : List ℕ → Option (List ℕ)) (chain : Lis
   include-whole before after (Err e) h texts r = include-stopped None before after before after e h texts r
 
   -- with a selection among the statements of the file
-  module _ {T : Type 0} (u : T) (only : List SelectedTree) (fresh included before after : List PlacedTree) (none : fresh ≡ []) (h : FileSteps tells contents chain name old new fresh included (Ok u)) where
+  module _ {T : Type 0} (u : T) (only : List SelectedTree) (fresh included before after : List PlacedTree) (none : fresh ≡ []) (h : FileSteps seen chain name old new fresh included (Ok u)) where
     module _ (texts : List (List ℕ)) (r : AreRead texts old) where
-      step : IsStep tells contents (λ all ns ending. FileEnds all chain (length old.names) name ns ending) texts old new fresh included (Ok u)
+      step : IsStep seen (λ all ns ending. FileEnds all chain (length old.names) name ns ending) texts old new fresh included (Ok u)
       step = h texts r
 
       from : step.ends.statements ≡ included
@@ -211,7 +212,7 @@ module _ (tells : Bool) (contents : List ℕ → Option (List ℕ)) (chain : Lis
           subst (λ end. StatementEnds (texts ++ step.more) chain file (length old.names) (include at name (Some only)) step.names end) (ap (select file (Some only)) from ∙ e)
           (selects chain step.names file (length old.names) at name (Some only) step.ends.statements apart room step.ends.ended)
 
-    pub include-selected : {V : Type 0} (answer : Result V GatherRefused) → SelectsAs (select file (Some only) included) before after answer → StatementSteps tells contents chain file (include at name (Some only)) old new before after answer
+    pub include-selected : {V : Type 0} (answer : Result V GatherRefused) → SelectsAs (select file (Some only) included) before after answer → StatementSteps seen chain file (include at name (Some only)) old new before after answer
     include-selected (Ok v) k texts r =
         let s = step texts r in
         record {
@@ -237,7 +238,7 @@ module _ (tells : Bool) (contents : List ℕ → Option (List ℕ)) (chain : Lis
         }
     include-selected (Err Memory) k texts r =
         let s = step texts r in
-        cut-step tells contents (λ all ns ending. StatementEnds all chain file (length old.names) (include at name (Some only)) ns ending) texts s.more s.names old new before after r s.opened s.told
+        cut-step seen (λ all ns ending. StatementEnds all chain file (length old.names) (include at name (Some only)) ns ending) texts s.more s.names old new before after r s.opened s.told
         (file-some (texts ++ s.more) chain (length old.names) name s.names (done s.ends.statements) s.ends.ended)
         (λ m total. stops chain s.names file (length old.names) at name (Some only) (wants m) apart room (file-cut m (texts ++ s.more) chain (length old.names) name s.names (done s.ends.statements) total s.ends.ended))
     include-selected (Err (Fault f)) k texts r = absurd k
@@ -247,34 +248,34 @@ module _ (tells : Bool) (contents : List ℕ → Option (List ℕ)) (chain : Lis
     include-selected (Err (TooMany f place)) k texts r = absurd k
 
 -- steps that open nothing
-module _ (tells : Bool) (contents : List ℕ → Option (List ℕ)) (chain : List (List ℕ)) (file : ℕ) (opened : Opened) (before : List PlacedTree) where
-  pub cycle-step : {T : Type 0} (at : ℕ) (name : List ℕ) (only : Option (List SelectedTree)) → Contains chain name → StatementSteps {T = T} tells contents chain file (include at name only) opened opened before before (Err (Cycle file at))
+module _ (seen : Seen) (chain : List (List ℕ)) (file : ℕ) (opened : Opened) (before : List PlacedTree) where
+  pub cycle-step : {T : Type 0} (at : ℕ) (name : List ℕ) (only : Option (List SelectedTree)) → Contains chain name → StatementSteps {T = T} seen chain file (include at name only) opened opened before before (Err (Cycle file at))
   cycle-step at name only is texts r =
-      still-step tells contents (λ all ns ending. StatementEnds all chain file (length opened.names) (include at name only) ns ending) texts opened before before (Err (Cycle file at))
+      still-step seen (λ all ns ending. StatementEnds all chain file (length opened.names) (include at name only) ns ending) texts opened before before (Err (Cycle file at))
       (in_cycle chain file (length opened.names) at name only is)
 
-  pub full-step : {T : Type 0} (at : ℕ) (name : List ℕ) (only : Option (List SelectedTree)) → (Contains chain name → ⊥) → file_limit ≤ length opened.names → StatementSteps {T = T} tells contents chain file (include at name only) opened opened before before (Err (TooMany file at))
+  pub full-step : {T : Type 0} (at : ℕ) (name : List ℕ) (only : Option (List SelectedTree)) → (Contains chain name → ⊥) → file_limit ≤ length opened.names → StatementSteps {T = T} seen chain file (include at name only) opened opened before before (Err (TooMany file at))
   full-step at name only new full texts r =
-      still-step tells contents (λ all ns ending. StatementEnds all chain file (length opened.names) (include at name only) ns ending) texts opened before before (Err (TooMany file at))
+      still-step seen (λ all ns ending. StatementEnds all chain file (length opened.names) (include at name only) ns ending) texts opened before before (Err (TooMany file at))
       (past_limit chain file (length opened.names) at name only new full)
 
-  pub memory-step : {T : Type 0} (s : StatementTree) (after : List PlacedTree) → StatementSteps {T = T} tells contents chain file s opened opened before after (Err Memory)
-  memory-step s after texts r = still-step tells contents (λ all ns ending. StatementEnds all chain file (length opened.names) s ns ending) texts opened before after (Err Memory) (inl refl)
+  pub memory-step : {T : Type 0} (s : StatementTree) (after : List PlacedTree) → StatementSteps {T = T} seen chain file s opened opened before after (Err Memory)
+  memory-step s after texts r = still-step seen (λ all ns ending. StatementEnds all chain file (length opened.names) s ns ending) texts opened before after (Err Memory) (inl refl)
 
-  pub stays-step : {T : Type 0} (u : T) (a : AnnotatedTree) (after : List PlacedTree) → after ≡ before ++ placed_statement file a ∷ [] → StatementSteps tells contents chain file (annotated a) opened opened before after (Ok u)
+  pub stays-step : {T : Type 0} (u : T) (a : AnnotatedTree) (after : List PlacedTree) → after ≡ before ++ placed_statement file a ∷ [] → StatementSteps seen chain file (annotated a) opened opened before after (Ok u)
   stays-step u a after e texts r =
-      still-step tells contents (λ all ns ending. StatementEnds all chain file (length opened.names) (annotated a) ns ending) texts opened before after (Ok u)
+      still-step seen (λ all ns ending. StatementEnds all chain file (length opened.names) (annotated a) ns ending) texts opened before after (Ok u)
       (record { statements = placed_statement file a ∷ []; ended = stays chain file (length opened.names) a; gathered = e; read = r })
 
-  pub none-step : StatementsStep tells contents chain file [] opened opened before before (Ok (tt {0}))
+  pub none-step : StatementsStep seen chain file [] opened opened before before (Ok (tt {0}))
   none-step texts r =
-      still-step tells contents (λ all ns ending. StatementsEnd all chain file (length opened.names) [] ns ending) texts opened before before (Ok (tt {0}))
+      still-step seen (λ all ns ending. StatementsEnd all chain file (length opened.names) [] ns ending) texts opened before before (Ok (tt {0}))
       (record { statements = []; ended = no_more chain file (length opened.names); gathered = sym (append-nil before); read = r })
 
 -- steps at files that tell the same
-module _ {T : Type 0} (tells others : Bool) (contents other : List ℕ → Option (List ℕ)) (telling : others ≡ tells) (same : other ≡ contents) (chain : List (List ℕ)) (file : ℕ) (old new : Opened) (before after : List PlacedTree) (answer : Result T GatherRefused) where
-  pub same-statement : (s : StatementTree) → StatementSteps others other chain file s old new before after answer → StatementSteps tells contents chain file s old new before after answer
-  same-statement s h = subst (λ t. StatementSteps t contents chain file s old new before after answer) telling (subst (λ f. StatementSteps others f chain file s old new before after answer) same h)
+module _ {T : Type 0} (seen other : Seen) (same : other ≡ seen) (chain : List (List ℕ)) (file : ℕ) (old new : Opened) (before after : List PlacedTree) (answer : Result T GatherRefused) where
+  pub same-statement : (s : StatementTree) → StatementSteps other chain file s old new before after answer → StatementSteps seen chain file s old new before after answer
+  same-statement s h = subst (λ t. StatementSteps t chain file s old new before after answer) same h
 
-  pub same-statements : (tree : List StatementTree) → StatementsStep others other chain file tree old new before after answer → StatementsStep tells contents chain file tree old new before after answer
-  same-statements tree h = subst (λ t. StatementsStep t contents chain file tree old new before after answer) telling (subst (λ f. StatementsStep others f chain file tree old new before after answer) same h)
+  pub same-statements : (tree : List StatementTree) → StatementsStep other chain file tree old new before after answer → StatementsStep seen chain file tree old new before after answer
+  same-statements tree h = subst (λ t. StatementsStep t chain file tree old new before after answer) same h

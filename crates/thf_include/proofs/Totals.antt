@@ -1,10 +1,11 @@
 -- What is gathered in all.
-use Rattle.std.proofs.Common.{◌≡◌, ℕ, zero, suc, ◌+◌, ◌<◌, ◌≤◌, Bool, List, [], ◌∷◌, ◌++◌, length, Option, Ok, All, refl, sym, ap, subst, ◌∙◌, length-append, arith}
+use Rattle.std.proofs.Common.{◌≡◌, ℕ, zero, suc, ◌+◌, ◌<◌, ◌≤◌, List, [], ◌∷◌, ◌++◌, length, Ok, All, refl, sym, ap, subst, ◌∙◌, length-append, arith}
 use Rattle.std.proofs.lemmas.List.{length-map}
 use Rattle.thf_grammar.specs.View.{the_statement, the_file}
 use Rattle.thf_grammar.specs.declared.statement.Statement.{Statement}
 use Rattle.thf_include.specs.declared.gathered.Placed.{Placed}
 use Rattle.outside.specs.Limits.{byte_limit}
+use Rattle.outside.specs.Seen.{Seen}
 use Rattle.thf_include.specs.declared.opened.Opened.{Opened}
 use Rattle.thf_include.specs.View.{the_placed, the_statements}
 use Rattle.thf_include.specs.Gathering.{done}
@@ -27,7 +28,7 @@ module _ (old : Opened) (none : old.names ≡ []) (whole : old.left ≡ byte_lim
   begun : AreRead [] old
   begun = record { each = sym (ap length none); bytes = omega arith }
 
-  module _ {T : Type 0} (u : T) (tells : Bool) (contents : List ℕ → Option (List ℕ)) (name : List ℕ) (new : Opened) (fresh gathered : List Placed) (empty : fresh ≡ []) (h : FileSteps tells contents [] name old new (the_statements fresh) (the_statements gathered) (Ok u)) where
+  module _ {T : Type 0} (u : T) (seen : Seen) (name : List ℕ) (new : Opened) (fresh gathered : List Placed) (empty : fresh ≡ []) (h : FileSteps seen [] name old new (the_statements fresh) (the_statements gathered) (Ok u)) where
     bounded : AreBounded (h [] begun).more (length old.names) (length old.names + length (h [] begun).names) 0 (the_statements gathered)
     bounded =
         let s = h [] begun in

@@ -1,5 +1,6 @@
 -- What a call that gathers answers.
-use Rattle.std.specs.Prelude.{◌≡◌, ℕ, ◌+◌, ◌-◌, Bool, ◌⊎◌, IsTrue, List, [], ◌∷◌, length, Option, Some, Result, Ok, Err}
+use Rattle.std.specs.Prelude.{◌≡◌, ℕ, ◌+◌, ◌-◌, ◌⊎◌, IsTrue, List, [], ◌∷◌, length, Option, Some, Result, Ok, Err}
+use Rattle.outside.specs.Seen.{Seen}
 use Rattle.thf_include.specs.declared.gathered.Placed.{Placed}
 use Rattle.thf_include.specs.declared.refused.GatherRefused.{GatherRefused}
 use Rattle.thf_include.specs.declared.refused.GatherRefused.TheVariants.{Fault, TooLong, Syntax, Cycle, NoSuchName, TooMany, Memory}
@@ -29,9 +30,9 @@ IsGatherAnswer texts name names (Ok gathered) = IsGathering texts name names (do
 IsGatherAnswer texts name names (Err refused) = StopsAs (λ why. IsGathering texts name names (stopped why)) (names ≡ []) names refused
 
 -- the answer is how the gathering ends over some texts, which are the contents of its files where these are told
-pub record Gathers (tells : Bool) (contents : List ℕ → Option (List ℕ)) (name : List ℕ) (names : List (List ℕ)) (answer : Result (List Placed) GatherRefused) : Type 0 where
+pub record Gathers (seen : Seen) (name : List ℕ) (names : List (List ℕ)) (answer : Result (List Placed) GatherRefused) : Type 0 where
   pub texts : List (List ℕ)
-  pub told : IsTrue tells → AreContents contents names texts
+  pub told : IsTrue seen.tells → AreContents seen.contents names texts
   pub answered : IsGatherAnswer texts name names answer
 
 -- P holds of the number of a file with a fault

@@ -1,5 +1,6 @@
 pub use Rattle.outside.specs.Causes
 pub use Rattle.outside.specs.Limits
+pub use Rattle.outside.specs.Seen
 pub use Rattle.thf_grammar.specs.Reading
 pub use Rattle.thf_grammar.specs.Trees
 pub use Rattle.thf_grammar.specs.View as ThfGrammarView

@@ -39,7 +39,7 @@ pub fn gather<F: Files>(
     name: &str,
 ) -> Result<Gathered, GatherRefused>
     requires empty { names.old ≡ [] }
-    ensures gathered { Gathers (F.tells files.old) (F.contents files.old) name.now names.new result }
+    ensures gathered { Gathers (F.seen files.old) name.now names.new result }
     ensures fault { IfErr result (OfFault (λ file. IsSomeAnd (slice_get names.new file) (λ n.
         Rose (F.faults files.old n) (F.faults files.new n)))) }
     ensures quiet { IfErr result IsNoFault → (other : List ℕ) → F.faults files.new other ≡ F.faults files.old other }
@@ -47,8 +47,7 @@ pub fn gather<F: Files>(
     ensures counted { IfOk result (λ g. length g ≤ 2 ^ 24) }
 
     ensures later { (other : List ℕ) → F.faults files.old other ≤ F.faults files.new other }
-    ensures same { F.contents files.new ≡ F.contents files.old }
-    ensures telling { F.tells files.new ≡ F.tells files.old }
+    ensures same { F.seen files.new ≡ F.seen files.old }
 {
     let mut opened = Opened::new(alloc);
     let mut gathered = Gathered::new(alloc);
@@ -78,7 +77,7 @@ fn gather_file<F: Files>(
     gathered: &mut Gathered,
 ) -> Result<(), GatherRefused>
     requires { length opened.old.names < file_limit }
-    ensures steps { FileSteps (F.tells files.old) (F.contents files.old) (the_chain chain.now) name.now
+    ensures steps { FileSteps (F.seen files.old) (the_chain chain.now) name.now
         opened.old opened.new (the_statements gathered.old) (the_statements gathered.new) result }
     ensures fault { IfErr result (OfFault (λ file. IsSomeAnd (slice_get opened.new.names file) (λ n.
         Rose (F.faults files.old n) (F.faults files.new n)))) }
@@ -86,8 +85,7 @@ fn gather_file<F: Files>(
 
     ensures grows { length opened.old.names ≤ length opened.new.names }
     ensures later { (other : List ℕ) → F.faults files.old other ≤ F.faults files.new other }
-    ensures same { F.contents files.new ≡ F.contents files.old }
-    ensures telling { F.tells files.new ≡ F.tells files.old }
+    ensures same { F.seen files.new ≡ F.seen files.old }
 {
     let file = opened.names.len() as u32;
     let text = opened.read(alloc, files, name)?;
@@ -109,7 +107,7 @@ fn gather_statements<F: Files>(
     gathered: &mut Gathered,
 ) -> Result<(), GatherRefused>
     requires { AreNamedStatements (the_file statements.items) }
-    ensures steps { StatementsStep (F.tells files.old) (F.contents files.old) (the_chain chain.now) file (the_file statements.items)
+    ensures steps { StatementsStep (F.seen files.old) (the_chain chain.now) file (the_file statements.items)
         opened.old opened.new (the_statements gathered.old) (the_statements gathered.new) result }
     ensures fault { IfErr result (OfFault (λ file. IsSomeAnd (slice_get opened.new.names file) (λ n.
         Rose (F.faults files.old n) (F.faults files.new n)))) }
@@ -117,8 +115,7 @@ fn gather_statements<F: Files>(
 
     ensures grows { length opened.old.names ≤ length opened.new.names }
     ensures later { (other : List ℕ) → F.faults files.old other ≤ F.faults files.new other }
-    ensures same { F.contents files.new ≡ F.contents files.old }
-    ensures telling { F.tells files.new ≡ F.tells files.old }
+    ensures same { F.seen files.new ≡ F.seen files.old }
 {
     for statement in statements {
         gather_statement(alloc, files, opened, &*chain, file, statement, gathered)?;
@@ -137,7 +134,7 @@ fn gather_statement<F: Files>(
     gathered: &mut Gathered,
 ) -> Result<(), GatherRefused>
     requires { IsNamedStatement (the_statement statement) }
-    ensures steps { StatementSteps (F.tells files.old) (F.contents files.old) (the_chain chain.now) file (the_statement statement)
+    ensures steps { StatementSteps (F.seen files.old) (the_chain chain.now) file (the_statement statement)
         opened.old opened.new (the_statements gathered.old) (the_statements gathered.new) result }
     ensures fault { IfErr result (OfFault (λ file. IsSomeAnd (slice_get opened.new.names file) (λ n.
         Rose (F.faults files.old n) (F.faults files.new n)))) }
@@ -145,8 +142,7 @@ fn gather_statement<F: Files>(
 
     ensures grows { length opened.old.names ≤ length opened.new.names }
     ensures later { (other : List ℕ) → F.faults files.old other ≤ F.faults files.new other }
-    ensures same { F.contents files.new ≡ F.contents files.old }
-    ensures telling { F.tells files.new ≡ F.tells files.old }
+    ensures same { F.seen files.new ≡ F.seen files.old }
 {
     match statement {
         Statement::Annotated(statement) => {
@@ -180,7 +176,7 @@ fn gather_include<F: Files>(
     gathered: &mut Gathered,
 ) -> Result<(), GatherRefused>
     requires { IsUtf8 statement.now.name }
-    ensures steps { StatementSteps (F.tells files.old) (F.contents files.old) (the_chain chain.now) statement.now.file
+    ensures steps { StatementSteps (F.seen files.old) (the_chain chain.now) statement.now.file
         (include statement.now.at statement.now.name (the_selection statement.now.only))
         opened.old opened.new (the_statements gathered.old) (the_statements gathered.new) result }
     ensures fault { IfErr result (OfFault (λ file. IsSomeAnd (slice_get opened.new.names file) (λ n.
@@ -189,8 +185,7 @@ fn gather_include<F: Files>(
 
     ensures grows { length opened.old.names ≤ length opened.new.names }
     ensures later { (other : List ℕ) → F.faults files.old other ≤ F.faults files.new other }
-    ensures same { F.contents files.new ≡ F.contents files.old }
-    ensures telling { F.tells files.new ≡ F.tells files.old }
+    ensures same { F.seen files.new ≡ F.seen files.old }
 {
     let Include {
         file,

@@ -41,15 +41,14 @@ impl Opened {
         requires { length self.old.names < file_limit }
         ensures names { OnOk result (self.new.names ≡ self.old.names ++ name.now ∷ []) }
         ensures left { IfOk result (λ text. self.new.left + length text ≡ self.old.left) }
-        ensures told { IfOk result (λ text. IsTrue (F.tells files.old) → F.contents files.old name.now ≡ Some text) }
-        ensures refused { IfErr result (IsReadRefusal (F.tells files.old) (F.contents files.old) name.now self.old.names self.new.names self.old.left) }
+        ensures told { IfOk result (λ text. IsTrue (F.seen files.old).tells → (F.seen files.old).contents name.now ≡ Some text) }
+        ensures refused { IfErr result (IsReadRefusal (F.seen files.old) name.now self.old.names self.new.names self.old.left) }
         ensures fault { IfErr result (OfFault (λ file. IsSomeAnd (slice_get self.new.names file) (λ n.
             Rose (F.faults files.old n) (F.faults files.new n)))) }
         ensures quiet { IfErr result IsNoFault → (other : List ℕ) → F.faults files.new other ≡ F.faults files.old other }
 
         ensures later { (other : List ℕ) → F.faults files.old other ≤ F.faults files.new other }
-        ensures same { F.contents files.new ≡ F.contents files.old }
-        ensures telling { F.tells files.new ≡ F.tells files.old }
+        ensures same { F.seen files.new ≡ F.seen files.old }
     {
         let file = self.names.len() as u32;
         self.names.push(Bytes::from_slice(alloc, name.as_bytes())?)?;

@@ -5,6 +5,7 @@ use Rattle.thf_include.specs.View.{PlacedTree}
 use Rattle.thf_include.specs.Gathering.{Ending, done, stopped}
 use Rattle.type_check.specs.Statements.{IllInFile, problem_of}
 use Rattle.outside.specs.Lines.{lines_of}
+use Rattle.outside.specs.Seen.{Seen}
 use Rattle.mode_file.specs.Refusals.{Refuses}
 use Rattle.mode_schedule.specs.Refusals.{RefusesBlocks}
 use Rattle.szs_report.specs.declared.answer.Answer.{Answer}
@@ -32,34 +33,34 @@ IsUnstated names answer (done ss) = IsIllAt names ss answer
 IsUnstated names answer (stopped s) = answer ≡ stop_answer names s
 
 -- the files of a problem state none, and are answered so, or memory ran out
-abbrev pub IsUnread : List ℕ → Bool → (List ℕ → Option (List ℕ)) → Answer → Type 0
-IsUnread name told contents Memory = Unit {0}
-IsUnread name told contents answer = (names : List (List ℕ)) × OfFiles name told contents names (IsUnstated names answer)
+abbrev pub IsUnread : List ℕ → Seen → Answer → Type 0
+IsUnread name seen Memory = Unit {0}
+IsUnread name seen answer = (names : List (List ℕ)) × OfFiles name seen names (IsUnstated names answer)
 
 -- a mode's file states none, and is answered so, or memory ran out
-abbrev pub IsUnreadMode : Bool → (List ℕ → Option (List ℕ)) → List ℕ → Answer → Type 0
-IsUnreadMode told contents file Memory = Unit {0}
-IsUnreadMode told contents file (ReadFault (Mode own)) = own ≡ file
-IsUnreadMode told contents file (TooLong (Mode own)) = (own ≡ file) × IsLongFile told contents file
-IsUnreadMode told contents file (ModeAt line why) = OfFile told contents file (λ bytes. Refuses (lines_of bytes) (refused_at why line))
-IsUnreadMode told contents file answer = ⊥
+abbrev pub IsUnreadMode : Seen → List ℕ → Answer → Type 0
+IsUnreadMode seen file Memory = Unit {0}
+IsUnreadMode seen file (ReadFault (Mode own)) = own ≡ file
+IsUnreadMode seen file (TooLong (Mode own)) = (own ≡ file) × IsLongFile seen file
+IsUnreadMode seen file (ModeAt line why) = OfFile seen file (λ bytes. Refuses (lines_of bytes) (refused_at why line))
+IsUnreadMode seen file answer = ⊥
 
-abbrev pub IsUnaskedMode : Bool → (List ℕ → Option (List ℕ)) → Option (List ℕ) → Answer → Type 0
-IsUnaskedMode told contents None answer = ⊥
-IsUnaskedMode told contents (Some file) answer = IsUnreadMode told contents file answer
+abbrev pub IsUnaskedMode : Seen → Option (List ℕ) → Answer → Type 0
+IsUnaskedMode seen None answer = ⊥
+IsUnaskedMode seen (Some file) answer = IsUnreadMode seen file answer
 
 -- a schedule's file states none, and is answered so, or memory ran out
-abbrev pub IsUnreadSchedule : Bool → (List ℕ → Option (List ℕ)) → List ℕ → Answer → Type 0
-IsUnreadSchedule told contents file Memory = Unit {0}
-IsUnreadSchedule told contents file (ReadFault (Schedule own)) = own ≡ file
-IsUnreadSchedule told contents file (TooLong (Schedule own)) = (own ≡ file) × IsLongFile told contents file
-IsUnreadSchedule told contents file (ScheduleAt line why) = OfFile told contents file (λ bytes. RefusesBlocks (lines_of bytes) (refused_schedule_at why line))
-IsUnreadSchedule told contents file answer = ⊥
+abbrev pub IsUnreadSchedule : Seen → List ℕ → Answer → Type 0
+IsUnreadSchedule seen file Memory = Unit {0}
+IsUnreadSchedule seen file (ReadFault (Schedule own)) = own ≡ file
+IsUnreadSchedule seen file (TooLong (Schedule own)) = (own ≡ file) × IsLongFile seen file
+IsUnreadSchedule seen file (ScheduleAt line why) = OfFile seen file (λ bytes. RefusesBlocks (lines_of bytes) (refused_schedule_at why line))
+IsUnreadSchedule seen file answer = ⊥
 
 -- the files of a problem are answered so, where the problem is answered as Answers says
-abbrev pub IsFilesAnswer : (PlainProblem → Answer → Type 0) → List ℕ → Bool → (List ℕ → Option (List ℕ)) → Answer → Type 0
-IsFilesAnswer Answers name told contents Memory = Unit {0}
-IsFilesAnswer Answers name told contents answer = (names : List (List ℕ)) × OfFiles name told contents names (AnswersEnding Answers names answer)
+abbrev pub IsFilesAnswer : (PlainProblem → Answer → Type 0) → List ℕ → Seen → Answer → Type 0
+IsFilesAnswer Answers name seen Memory = Unit {0}
+IsFilesAnswer Answers name seen answer = (names : List (List ℕ)) × OfFiles name seen names (AnswersEnding Answers names answer)
 
 -- whether an answer is that a text is accepted; none where it is that memory ran out
 abbrev pub verdict_of : Answer → Option Bool

@@ -1,7 +1,8 @@
 -- Steps of a gathering, from one state of what was opened to another.
-use Rattle.std.specs.Prelude.{◌≡◌, ℕ, ◌+◌, Bool, IsTrue, List, [], ◌++◌, length, Option, Result, Ok, Err}
+use Rattle.std.specs.Prelude.{◌≡◌, ℕ, ◌+◌, IsTrue, List, [], ◌++◌, length, Result, Ok, Err}
 use Rattle.thf_grammar.specs.Trees.{StatementTree}
 use Rattle.outside.specs.Limits.{byte_limit}
+use Rattle.outside.specs.Seen.{Seen}
 use Rattle.thf_include.specs.declared.opened.Opened.{Opened}
 use Rattle.thf_include.specs.declared.refused.GatherRefused.{GatherRefused}
 use Rattle.thf_include.specs.declared.refused.GatherRefused.TheVariants.{Fault, TooLong, Syntax, Cycle, NoSuchName, TooMany, Memory}
@@ -27,27 +28,27 @@ StepsEndAs R texts names opened before after (Ok answer) = IsDone R texts names 
 StepsEndAs R texts names opened before after (Err refused) = StopsAs (λ why. R texts names (stopped why)) (names ≡ []) opened.names refused
 
 -- A step behind these texts opens files and reads further texts. R says how it ends.
-pub record IsStep {T : Type 0} (tells : Bool) (contents : List ℕ → Option (List ℕ)) (R : List (List ℕ) → List (List ℕ) → Ending → Type 0) (texts : List (List ℕ)) (old new : Opened) (before after : List PlacedTree) (answer : Result T GatherRefused) : Type 0 where
+pub record IsStep {T : Type 0} (seen : Seen) (R : List (List ℕ) → List (List ℕ) → Ending → Type 0) (texts : List (List ℕ)) (old new : Opened) (before after : List PlacedTree) (answer : Result T GatherRefused) : Type 0 where
   pub more : List (List ℕ)
   pub names : List (List ℕ)
   pub opened : new.names ≡ old.names ++ names
-  pub told : IsTrue tells → AreContents contents names more
+  pub told : IsTrue seen.tells → AreContents seen.contents names more
   pub ends : StepsEndAs R (texts ++ more) names new before after answer
 
 -- the step of a file with this name, which is the next to be opened
-abbrev pub FileSteps : {T : Type 0} → Bool → (List ℕ → Option (List ℕ)) → List (List ℕ) → List ℕ → Opened → Opened → List PlacedTree → List PlacedTree → Result T GatherRefused → Type 0
-FileSteps tells contents chain name old new before after answer =
-    (texts : List (List ℕ)) → AreRead texts old → IsStep tells contents (λ all names ending. FileEnds all chain (length old.names) name names ending) texts old new before after answer
+abbrev pub FileSteps : {T : Type 0} → Seen → List (List ℕ) → List ℕ → Opened → Opened → List PlacedTree → List PlacedTree → Result T GatherRefused → Type 0
+FileSteps seen chain name old new before after answer =
+    (texts : List (List ℕ)) → AreRead texts old → IsStep seen (λ all names ending. FileEnds all chain (length old.names) name names ending) texts old new before after answer
 
 -- the step of a statement in the file with this number
-abbrev pub StatementSteps : {T : Type 0} → Bool → (List ℕ → Option (List ℕ)) → List (List ℕ) → ℕ → StatementTree → Opened → Opened → List PlacedTree → List PlacedTree → Result T GatherRefused → Type 0
-StatementSteps tells contents chain file s old new before after answer =
-    (texts : List (List ℕ)) → AreRead texts old → IsStep tells contents (λ all names ending. StatementEnds all chain file (length old.names) s names ending) texts old new before after answer
+abbrev pub StatementSteps : {T : Type 0} → Seen → List (List ℕ) → ℕ → StatementTree → Opened → Opened → List PlacedTree → List PlacedTree → Result T GatherRefused → Type 0
+StatementSteps seen chain file s old new before after answer =
+    (texts : List (List ℕ)) → AreRead texts old → IsStep seen (λ all names ending. StatementEnds all chain file (length old.names) s names ending) texts old new before after answer
 
 -- the step of statements in the file with this number
-abbrev pub StatementsStep : {T : Type 0} → Bool → (List ℕ → Option (List ℕ)) → List (List ℕ) → ℕ → List StatementTree → Opened → Opened → List PlacedTree → List PlacedTree → Result T GatherRefused → Type 0
-StatementsStep tells contents chain file tree old new before after answer =
-    (texts : List (List ℕ)) → AreRead texts old → IsStep tells contents (λ all names ending. StatementsEnd all chain file (length old.names) tree names ending) texts old new before after answer
+abbrev pub StatementsStep : {T : Type 0} → Seen → List (List ℕ) → ℕ → List StatementTree → Opened → Opened → List PlacedTree → List PlacedTree → Result T GatherRefused → Type 0
+StatementsStep seen chain file tree old new before after answer =
+    (texts : List (List ℕ)) → AreRead texts old → IsStep seen (λ all names ending. StatementsEnd all chain file (length old.names) tree names ending) texts old new before after answer
 
 -- what is selected stands behind the statements before
 pub record IsSelected (ending : Ending) (before after : List PlacedTree) : Type 0 where

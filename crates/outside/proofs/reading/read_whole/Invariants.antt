@@ -8,10 +8,9 @@ invariant-loop-count g l =
       current : IsTrue (files.has_current l.files);
       named : files.goes_by l.files l.name;
       short : length l.bytes ≤ l.limit;
-      read : IsTrue (files.tells l.fn.files) → files.contents l.fn.files l.name ≡ Some (l.bytes ++ files.left l.files);
+      read : IsTrue (files.seen l.fn.files).tells → (files.seen l.fn.files).contents l.name ≡ Some (l.bytes ++ files.left l.files);
       quiet : (other : List ℕ) → files.faults l.files other ≡ files.faults l.fn.files other;
-      same : files.contents l.files ≡ files.contents l.fn.files;
-      telling : files.tells l.files ≡ files.tells l.fn.files;
+      same : files.seen l.files ≡ files.seen l.fn.files;
     }
 
 abbrev pub decreases-loop-count : goal.decreases-loop-count

@@ -8,16 +8,14 @@ use Rattle.request_answers.proofs.request.prove.Goals as goal
 
 pub returns-in-Ok-clause-answers : goal.returns-in-Ok-clause-answers
 returns-in-Ok-clause-answers g c =
-    let told = g.F.Files.tells c.args.files.now in
-    let contents = g.F.Files.contents c.args.files.now in
+    let seen = g.F.Files.seen c.args.files.now in
     let p = c.args.problem.now in
     let m = c.in-Ok.mode in
     let a = c.prove_by.result in
-    files_request (prove p (option_map (λ f. f.now) c.args.mode) c.args.nodes) told contents m c.in-Ok.ensures.stated [] refl a
-    (subst (λ t. IsFilesAnswer (IsSolved c.args.nodes m) p t contents a) c.mode_by.ensures.telling
-    (subst (λ x. IsFilesAnswer (IsSolved c.args.nodes m) p (g.F.Files.tells c.mode_by.new.files) x a) c.mode_by.ensures.same c.prove_by.ensures.answers))
+    files_request (prove p (option_map (λ f. f.now) c.args.mode) c.args.nodes) seen m c.in-Ok.ensures.stated [] refl a
+    (subst (λ x. IsFilesAnswer (IsSolved c.args.nodes m) p x a) c.mode_by.ensures.same c.prove_by.ensures.answers)
 
 pub returns-in-Ok-clause-fault : goal.returns-in-Ok-clause-fault
 returns-in-Ok-clause-fault g c = λ k names e.
-    fault_before c.args.problem.now (g.F.Files.tells c.args.files.now) (g.F.Files.contents c.args.files.now) (g.F.Files.tells c.mode_by.new.files) (g.F.Files.contents c.mode_by.new.files) (g.F.Files.faults c.args.files.now) (g.F.Files.faults c.mode_by.new.files) (g.F.Files.faults c.prove_by.new.files) k
-    c.mode_by.ensures.telling c.mode_by.ensures.same c.in-Ok.ensures.quiet (c.prove_by.ensures.fault k names e)
+    fault_before c.args.problem.now (g.F.Files.seen c.args.files.now) (g.F.Files.seen c.mode_by.new.files) (g.F.Files.faults c.args.files.now) (g.F.Files.faults c.mode_by.new.files) (g.F.Files.faults c.prove_by.new.files) k
+    c.mode_by.ensures.same c.in-Ok.ensures.quiet (c.prove_by.ensures.fault k names e)

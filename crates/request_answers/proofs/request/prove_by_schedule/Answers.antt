@@ -12,38 +12,34 @@ use Rattle.request_answers.proofs.request.prove_by_schedule.Goals as goal
 
 pub returns-in-Ok-clause-answers : goal.returns-in-Ok-clause-answers
 returns-in-Ok-clause-answers g c =
-    let told = g.F.Files.tells c.args.files.now in
-    let contents = g.F.Files.contents c.args.files.now in
+    let seen = g.F.Files.seen c.args.files.now in
     let p = c.args.problem.now in
     let bs = c.in-Ok.blocks.items in
     let a = c.prove_in_turns.result in
-    files_request (by_schedule c.args.schedule.now p) told contents (mode_of nothing_given) refl bs c.in-Ok.ensures.stated a
-    (subst (λ (x : List Block). IsFilesAnswer (IsSolvedInTurns x) p told contents a) c.as_slice.ensures.value
-    (subst (λ t. IsFilesAnswer (IsSolvedInTurns c.as_slice.result.now) p t contents a) c.read_schedule_file.ensures.telling
-    (subst (λ x. IsFilesAnswer (IsSolvedInTurns c.as_slice.result.now) p (g.F.Files.tells c.read_schedule_file.new.files) x a) c.read_schedule_file.ensures.same c.prove_in_turns.ensures.answers)))
+    files_request (by_schedule c.args.schedule.now p) seen (mode_of nothing_given) refl bs c.in-Ok.ensures.stated a
+    (subst (λ (x : List Block). IsFilesAnswer (IsSolvedInTurns x) p seen a) c.as_slice.ensures.value
+    (subst (λ x. IsFilesAnswer (IsSolvedInTurns c.as_slice.result.now) p x a) c.read_schedule_file.ensures.same c.prove_in_turns.ensures.answers))
 
 pub returns-in-Ok-clause-fault : goal.returns-in-Ok-clause-fault
 returns-in-Ok-clause-fault g c = λ k names e.
-    fault_before c.args.problem.now (g.F.Files.tells c.args.files.now) (g.F.Files.contents c.args.files.now) (g.F.Files.tells c.read_schedule_file.new.files) (g.F.Files.contents c.read_schedule_file.new.files) (g.F.Files.faults c.args.files.now) (g.F.Files.faults c.read_schedule_file.new.files) (g.F.Files.faults c.prove_in_turns.new.files) k
-    c.read_schedule_file.ensures.telling c.read_schedule_file.ensures.same c.in-Ok.ensures.quiet (c.prove_in_turns.ensures.fault k names e)
+    fault_before c.args.problem.now (g.F.Files.seen c.args.files.now) (g.F.Files.seen c.read_schedule_file.new.files) (g.F.Files.faults c.args.files.now) (g.F.Files.faults c.read_schedule_file.new.files) (g.F.Files.faults c.prove_in_turns.new.files) k
+    c.read_schedule_file.ensures.same c.in-Ok.ensures.quiet (c.prove_in_turns.ensures.fault k names e)
 
 pub returns-in-Ok-clause-schedule_fault : goal.returns-in-Ok-clause-schedule_fault
 returns-in-Ok-clause-schedule_fault g c = λ own e.
-    let told = g.F.Files.tells c.read_schedule_file.new.files in
-    let contents = g.F.Files.contents c.read_schedule_file.new.files in
+    let seen = g.F.Files.seen c.read_schedule_file.new.files in
     let p = c.args.problem.now in
     let bs = c.as_slice.result.now in
-    absurd (files_not_guide (by_schedule c.args.schedule.now p) told contents (mode_of nothing_given) bs (ReadFault (named.Schedule own)) tt
-    (subst (IsFilesAnswer (IsSolvedInTurns bs) p told contents) e c.prove_in_turns.ensures.answers))
+    absurd (files_not_guide (by_schedule c.args.schedule.now p) seen (mode_of nothing_given) bs (ReadFault (named.Schedule own)) tt
+    (subst (IsFilesAnswer (IsSolvedInTurns bs) p seen) e c.prove_in_turns.ensures.answers))
 
 pub returns-in-Err-clause-schedule_fault : goal.returns-in-Err-clause-schedule_fault
 returns-in-Err-clause-schedule_fault g c = λ own e.
-    let told = g.F.Files.tells c.args.files.now in
-    let contents = g.F.Files.contents c.args.files.now in
+    let seen = g.F.Files.seen c.args.files.now in
     let file = c.args.schedule.now in
-    let is_file = subst (IsUnreadSchedule told contents file) e c.in-Err.ensures.unread in
+    let is_file = subst (IsUnreadSchedule seen file) e c.in-Err.ensures.unread in
     subst (λ n. Rose (g.F.Files.faults c.args.files.now n) (g.F.Files.faults c.read_schedule_file.new.files n)) (sym is_file) (c.read_schedule_file.ensures.fault own (c.in-Err.is ∙ ap Err e))
 
 pub returns-in-Err-clause-answers : goal.returns-in-Err-clause-answers
 returns-in-Err-clause-answers g c =
-    schedule_request c.args.schedule.now c.args.problem.now (g.F.Files.tells c.args.files.now) (g.F.Files.contents c.args.files.now) c.in-Err.answer c.in-Err.ensures.unread
+    schedule_request c.args.schedule.now c.args.problem.now (g.F.Files.seen c.args.files.now) c.in-Err.answer c.in-Err.ensures.unread

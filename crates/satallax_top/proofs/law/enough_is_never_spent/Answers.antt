@@ -3,4 +3,4 @@ use Rattle.satallax_top.proofs.HeadlineLaws.{never_spent}
 use Rattle.satallax_top.proofs.law.enough_is_never_spent.Goals as goal
 
 pub returns : goal.returns
-returns c = λ words told contents conflicts enough answer. never_spent (asked_by words) told contents conflicts enough answer
+returns c = λ words seen conflicts enough answer. never_spent (asked_by words) seen conflicts enough answer

@@ -9,4 +9,4 @@ answer-answer-requires-clause-in_range g c = asked_in_range c.args.words.now (th
 
 pub returns-in-Err-Memory-clause-cause : goal.returns-in-Err-Memory-clause-cause
 returns-in-Err-Memory-clause-cause g c =
-    memory_without_cause (asked_by c.args.words.now) (g.F.Files.tells c.args.files.now) (g.F.Files.contents c.args.files.now) (g.F.Files.faults c.args.files.now)
+    memory_without_cause (asked_by c.args.words.now) (g.F.Files.seen c.args.files.now) (g.F.Files.faults c.args.files.now)

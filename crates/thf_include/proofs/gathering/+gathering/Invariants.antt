@@ -27,10 +27,9 @@ invariant-gather_statements-loop-statement g l =
       can : (goal.iterator-gather_statements-loop-statement g).can_next l.statement-iterator;
       finite : (goal.iterator-gather_statements-loop-statement g).is_finite l.statement-iterator;
       seen : l.fn.statements.items ≡ l.yielded ++ into_iter_items l.statement-iterator;
-      steps : StatementsStep (files.tells l.fn.files) (files.contents l.fn.files) (the_chain l.chain) l.file (the_file l.yielded) l.fn.opened l.opened (the_statements l.fn.gathered) (the_statements l.gathered) (Ok (tt {0}));
+      steps : StatementsStep (files.seen l.fn.files) (the_chain l.chain) l.file (the_file l.yielded) l.fn.opened l.opened (the_statements l.fn.gathered) (the_statements l.gathered) (Ok (tt {0}));
       grows : length l.fn.opened.names ≤ length l.opened.names;
       quiet : (other : List ℕ) → files.faults l.files other ≡ files.faults l.fn.files other;
       later : (other : List ℕ) → files.faults l.fn.files other ≤ files.faults l.files other;
-      same : files.contents l.files ≡ files.contents l.fn.files;
-      telling : files.tells l.files ≡ files.tells l.fn.files;
+      same : files.seen l.files ≡ files.seen l.fn.files;
     }
