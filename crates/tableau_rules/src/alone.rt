@@ -33,11 +33,7 @@ fn false_drafts(alloc: Global, bank: &Bank, p: Principal) -> Option<Drafts>
     None
 }
 
-fn imp_pos_drafts(
-    alloc: Global,
-    bank: &Bank,
-    p: Principal,
-) -> Result<Option<Drafts>, AllocError>
+fn imp_pos_drafts(alloc: Global, bank: &Bank, p: Principal) -> Result<Option<Drafts>, AllocError>
     requires { IsPrincipal bank.now p }
     ensures { IfOk result (λ o. (rows : List Row) → Drafted bank.now rows (p ∷ []) (AtOne ImpPos 0) o) }
 {
@@ -50,11 +46,7 @@ fn imp_pos_drafts(
     }
 }
 
-fn imp_neg_drafts(
-    alloc: Global,
-    bank: &Bank,
-    p: Principal,
-) -> Result<Option<Drafts>, AllocError>
+fn imp_neg_drafts(alloc: Global, bank: &Bank, p: Principal) -> Result<Option<Drafts>, AllocError>
     requires { IsPrincipal bank.now p }
     ensures { IfOk result (λ o. (rows : List Row) → Drafted bank.now rows (p ∷ []) (AtOne ImpNeg 0) o) }
 {
