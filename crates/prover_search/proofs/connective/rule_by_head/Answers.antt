@@ -1,4 +1,4 @@
-use Rattle.std.proofs.Common.{refl, sym, ap, ◌∙◌, arith}
+use Rattle.std.proofs.Common.{refl, sym, ap, ap₂, ◌∙◌, arith}
 use Rattle.stt_core.specs.Lambda.{name, witness, falsity, negation, implication, all, equality, choice, description, Lambda, bound, constant, applied}
 use Rattle.stt_core.specs.View.{the_head, the_type}
 use Rattle.search_spec.specs.Processing.{connective_rule}
@@ -28,3 +28,33 @@ returns-in-Choice c = λ ts e. no_connective c.args.positive (constant (choice (
 
 pub returns-in-Desc : goal.returns-in-Desc
 returns-in-Desc c = λ ts e. no_connective c.args.positive (constant (description (the_type c.in-Desc.field-0))) refl (λ t. refl) (λ t u. refl) ts ∙ sym (ap (λ h. named (connective_rule (applied (the_head h) ts) c.args.positive)) c.in-Desc.is)
+
+pub returns-then-count-ne0 : goal.returns-then-count-ne0
+returns-then-count-ne0 c = λ ts e.
+    falsity-others c.args.positive ts (λ n. absurd (omega (arith, e, n, c.if-count-ne0.true)))
+    ∙ sym (ap (λ h. named (connective_rule (applied (the_head h) ts) c.args.positive)) c.in-False.is)
+
+pub returns-then-positive : goal.returns-then-positive
+returns-then-positive c = λ ts e.
+    falsity-positive ts (omega (arith, e, c.if-count-ne0.false))
+    ∙ sym (ap₂ (λ h sign. named (connective_rule (applied (the_head h) ts) sign)) c.in-False.is c.if-positive.true)
+
+pub returns-else-positive : goal.returns-else-positive
+returns-else-positive c = λ ts e.
+    falsity-negative ts (omega (arith, e, c.if-count-ne0.false))
+    ∙ sym (ap₂ (λ h sign. named (connective_rule (applied (the_head h) ts) sign)) c.in-False.is c.if-positive.false)
+
+pub returns-then-count-ne2 : goal.returns-then-count-ne2
+returns-then-count-ne2 c = λ ts e.
+    implication-others c.args.positive ts (λ n. absurd (omega (arith, e, n, c.if-count-ne2.true)))
+    ∙ sym (ap (λ h. named (connective_rule (applied (the_head h) ts) c.args.positive)) c.in-Imp.is)
+
+pub returns-then-positive-2 : goal.returns-then-positive-2
+returns-then-positive-2 c = λ ts e.
+    implication-positive ts (omega (arith, e, c.if-count-ne2.false))
+    ∙ sym (ap₂ (λ h sign. named (connective_rule (applied (the_head h) ts) sign)) c.in-Imp.is c.if-positive-2.true)
+
+pub returns-else-positive-2 : goal.returns-else-positive-2
+returns-else-positive-2 c = λ ts e.
+    implication-negative ts (omega (arith, e, c.if-count-ne2.false))
+    ∙ sym (ap₂ (λ h sign. named (connective_rule (applied (the_head h) ts) sign)) c.in-Imp.is c.if-positive-2.false)
