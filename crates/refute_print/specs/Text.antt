@@ -77,14 +77,26 @@ one_place_name FunNeg = codes "Fun-"
 one_place_name AllNeg = codes "All-"
 one_place_name Dec = codes "Dec"
 
+-- the rules of one place, in the order in which a name is looked for
+abbrev pub one_place_rules : List OnePlace
+one_place_rules = False ∷ Refl ∷ ImpPos ∷ ImpNeg ∷ BoolPos ∷ BoolNeg ∷ FunPos ∷ FunNeg ∷ AllNeg ∷ Dec ∷ []
+
 abbrev pub two_places_name : TwoPlaces → List ℕ
 two_places_name Close = codes "Close"
 two_places_name Mat = codes "Mat"
 two_places_name Con = codes "Con"
 
+-- the rules of two places, in the order in which a name is looked for
+abbrev pub two_places_rules : List TwoPlaces
+two_places_rules = Close ∷ Mat ∷ Con ∷ []
+
 abbrev pub predicate_name : OfPredicate → List ℕ
 predicate_name Cho = codes "Cho"
 predicate_name Des = codes "Des"
+
+-- the rules of a predicate, in the order in which a name is looked for
+abbrev pub predicate_rules : List OfPredicate
+predicate_rules = Cho ∷ Des ∷ []
 
 abbrev pub rule_text : RuleUse ℕ TermTree LiteralTree → List ℕ
 rule_text (AtOne r i) = one_place_name r ++ (codes "(" ++ (decimal i ++ codes ")"))

@@ -11,6 +11,6 @@ mod write_term;
 mod write_whole;
 
 pub use line::{RefutationText, TextLine, TextLines, TextLit, TextLits, TextNames, TextRule};
-pub use rule_mark::{one_place_mark, predicate_mark, two_places_mark};
+pub use rule_mark::NamedRule;
 pub use tree::{TextHead, TextNode, TextTerm, TextTerms, TextTy};
 pub use write_whole::write_text;

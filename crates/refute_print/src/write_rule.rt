@@ -5,7 +5,7 @@ ghost use Rattle.refute_print.specs.Text.{term_text, sign_text, literal_text, ru
 ghost use Rattle.refute_print.specs.Named.{names_of, named_term, named_literal, named_rule, HasNames, HasRuleNames};
 ghost use Rattle.outside.specs.Writing.{Took, Stopped};
 
-use crate::rule_mark::{one_place_mark, predicate_mark, two_places_mark};
+use crate::rule_mark::NamedRule;
 use crate::write_bytes::write_numbered;
 use crate::write_term::write_term_between;
 use outside::{Failed, Sink};
@@ -75,12 +75,10 @@ pub(crate) fn write_rule<S: Sink>(
         (rule_text (named_rule (names_of sig.now.bases sig.now.consts) rule.now))) }
 {
     match rule {
-        RuleUse::AtOne(kind, i) => write_numbered(sink, one_place_mark(*kind), *i, b")"),
-        RuleUse::AtTwo(kind, i, j) => write_two_places(sink, two_places_mark(*kind), *i, *j),
+        RuleUse::AtOne(kind, i) => write_numbered(sink, kind.mark(), *i, b")"),
+        RuleUse::AtTwo(kind, i, j) => write_two_places(sink, kind.mark(), *i, *j),
         RuleUse::AllPos(i, term) => write_instance(sink, sig, *i, term),
-        RuleUse::WithPredicate(kind, f) => {
-            write_term_between(sink, sig, predicate_mark(*kind), f, b")")
-        }
+        RuleUse::WithPredicate(kind, f) => write_term_between(sink, sig, kind.mark(), f, b")"),
         RuleUse::Cut(lit) => write_cut(sink, sig, lit),
     }
 }

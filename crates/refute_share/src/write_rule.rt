@@ -12,7 +12,7 @@ use crate::term::SharedTerm;
 use crate::write_bytes::write_numbered;
 use crate::write_term::write_term_between;
 use outside::{Failed, Sink};
-use refute_print::{one_place_mark, predicate_mark, two_places_mark};
+use refute_print::NamedRule;
 use stt_core::Signature;
 use tableau_calculus::RuleUse;
 
@@ -79,12 +79,10 @@ pub(crate) fn write_rule<S: Sink>(
         (rule_text (named_rule (names_of sig.now.bases sig.now.consts) (the_rule_use rule.now)))) }
 {
     match rule {
-        RuleUse::AtOne(kind, i) => write_numbered(sink, one_place_mark(*kind), *i, b")"),
-        RuleUse::AtTwo(kind, i, j) => write_two_places(sink, two_places_mark(*kind), *i, *j),
+        RuleUse::AtOne(kind, i) => write_numbered(sink, kind.mark(), *i, b")"),
+        RuleUse::AtTwo(kind, i, j) => write_two_places(sink, kind.mark(), *i, *j),
         RuleUse::AllPos(i, term) => write_instance(sink, sig, *i, term),
-        RuleUse::WithPredicate(kind, f) => {
-            write_term_between(sink, sig, predicate_mark(*kind), f, b")")
-        }
+        RuleUse::WithPredicate(kind, f) => write_term_between(sink, sig, kind.mark(), f, b")"),
         RuleUse::Cut(lit) => write_cut(sink, sig, lit),
     }
 }

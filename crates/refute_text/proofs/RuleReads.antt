@@ -6,11 +6,11 @@ use Rattle.tableau_calculus.specs.declared.rule_use.OfPredicate.{OfPredicate}
 use Rattle.tableau_calculus.specs.declared.rule_use.RuleUse.{RuleUse}
 use Rattle.tableau_calculus.specs.declared.rule_use.RuleUse.TheVariants.{AtOne, AtTwo, AllPos, WithPredicate, Cut}
 use Rattle.refute_print.specs.Trees.{TermTree, LiteralTree}
-use Rattle.refute_print.specs.Text.{term_text, literal_text, one_place_name, two_places_name, predicate_name, rule_text}
+use Rattle.refute_print.specs.Text.{term_text, literal_text, one_place_name, one_place_rules, two_places_name, two_places_rules, predicate_name, predicate_rules, rule_text}
 use Rattle.refute_print.specs.Limits.{greatest_depth, IsRule}
 use Rattle.refute_text.specs.Internal.Reader.{behind_text, number_at}
 use Rattle.refute_text.specs.Internal.TermReader.{term_text_at}
-use Rattle.refute_text.specs.Internal.LineReader.{literal_text_at, place_text_at, one_place_at, places_at, two_places_at, instance_at, predicate_at, cut_at, named_first, one_place_rules, two_places_rules, predicate_rules, one_place_named, two_places_named, predicate_named, rule_at}
+use Rattle.refute_text.specs.Internal.LineReader.{literal_text_at, place_text_at, one_place_at, places_at, two_places_at, instance_at, predicate_at, cut_at, named_first, one_place_named, two_places_named, predicate_named, rule_at}
 use Rattle.refute_text.proofs.Inversions.{found, found_first, found_second, bind_sound, front_sound, behind_some}
 use Rattle.refute_text.proofs.NameReads.{number_reads}
 use Rattle.refute_text.proofs.TermReads.{term_reads}

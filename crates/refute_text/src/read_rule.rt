@@ -3,7 +3,7 @@
 ghost use Rattle.std.specs.Prelude.{◌≡◌, ◌^◌, option_map};
 ghost use Rattle.refute_print.specs.Limits.{is_negated_text};
 ghost use Rattle.refute_text.specs.Internal.Reader.{number_at};
-ghost use Rattle.refute_text.specs.Internal.LineReader.{signed_text_at, literal_text_at, place_text_at, one_place_named, two_places_named, predicate_named, one_place_at, places_at, two_places_at, instance_at, predicate_at, cut_at, rule_at};
+ghost use Rattle.refute_text.specs.Internal.LineReader.{signed_text_at, literal_text_at, place_text_at, named_first, one_place_named, two_places_named, predicate_named, one_place_at, places_at, two_places_at, instance_at, predicate_at, cut_at, rule_at};
 ghost use Rattle.refute_text.specs.Internal.Refusals.{AnswersReader};
 ghost use Rattle.refute_print.specs.TreeView.{the_text_head};
 
@@ -11,7 +11,7 @@ use crate::read_name::{behind, number};
 use crate::read_term::read_term;
 use crate::read_type::expect;
 use crate::refusal::Refusal;
-use refute_print::{TextHead, TextLit, TextNode, TextRule, TextTerm};
+use refute_print::{NamedRule, TextHead, TextLit, TextNode, TextRule, TextTerm};
 use std::alloc::Global;
 use tableau_calculus::{OfPredicate, OnePlace, RuleUse, TwoPlaces};
 
@@ -119,35 +119,25 @@ struct RuleNamed<'a, K> {
     rest: &'a [u8],
 }
 
+/// The first rule of its list whose name, with the parenthesis behind it, is at the front.
+fn named<K: NamedRule>(bytes: &[u8]) -> Option<RuleNamed<'_, K>>
+    ensures { option_map (λ n. (n.rule, n.rest.now)) result ≡ named_first K.name K.rules bytes.now }
+{
+    let rules = K::rules();
+    for rule in rules {
+        if let Some(rest) = behind(rule.mark(), bytes) {
+            return Some(RuleNamed { rule: *rule, rest });
+        }
+    }
+    None
+}
+
 /// A rule of one place.
 #[tactic(auto, unfolding(crate::specs::Internal::LineReader::one_place_named))]
 fn one_place_named(bytes: &[u8]) -> Option<RuleNamed<'_, OnePlace>>
     ensures { option_map (λ n. (n.rule, n.rest.now)) result ≡ one_place_named bytes.now }
 {
-    let (rule, rest) = if let Some(rest) = behind(b"False(", bytes) {
-        (OnePlace::False, rest)
-    } else if let Some(rest) = behind(b"Refl(", bytes) {
-        (OnePlace::Refl, rest)
-    } else if let Some(rest) = behind(b"Imp+(", bytes) {
-        (OnePlace::ImpPos, rest)
-    } else if let Some(rest) = behind(b"Imp-(", bytes) {
-        (OnePlace::ImpNeg, rest)
-    } else if let Some(rest) = behind(b"Bool+(", bytes) {
-        (OnePlace::BoolPos, rest)
-    } else if let Some(rest) = behind(b"Bool-(", bytes) {
-        (OnePlace::BoolNeg, rest)
-    } else if let Some(rest) = behind(b"Fun+(", bytes) {
-        (OnePlace::FunPos, rest)
-    } else if let Some(rest) = behind(b"Fun-(", bytes) {
-        (OnePlace::FunNeg, rest)
-    } else if let Some(rest) = behind(b"All-(", bytes) {
-        (OnePlace::AllNeg, rest)
-    } else if let Some(rest) = behind(b"Dec(", bytes) {
-        (OnePlace::Dec, rest)
-    } else {
-        return None;
-    };
-    Some(RuleNamed { rule, rest })
+    named(bytes)
 }
 
 /// A rule of two places.
@@ -155,16 +145,7 @@ fn one_place_named(bytes: &[u8]) -> Option<RuleNamed<'_, OnePlace>>
 fn two_places_named(bytes: &[u8]) -> Option<RuleNamed<'_, TwoPlaces>>
     ensures { option_map (λ n. (n.rule, n.rest.now)) result ≡ two_places_named bytes.now }
 {
-    let (rule, rest) = if let Some(rest) = behind(b"Close(", bytes) {
-        (TwoPlaces::Close, rest)
-    } else if let Some(rest) = behind(b"Mat(", bytes) {
-        (TwoPlaces::Mat, rest)
-    } else if let Some(rest) = behind(b"Con(", bytes) {
-        (TwoPlaces::Con, rest)
-    } else {
-        return None;
-    };
-    Some(RuleNamed { rule, rest })
+    named(bytes)
 }
 
 /// A rule that takes a predicate.
@@ -172,14 +153,7 @@ fn two_places_named(bytes: &[u8]) -> Option<RuleNamed<'_, TwoPlaces>>
 fn predicate_named(bytes: &[u8]) -> Option<RuleNamed<'_, OfPredicate>>
     ensures { option_map (λ n. (n.rule, n.rest.now)) result ≡ predicate_named bytes.now }
 {
-    let (rule, rest) = if let Some(rest) = behind(b"Cho(", bytes) {
-        (OfPredicate::Cho, rest)
-    } else if let Some(rest) = behind(b"Des(", bytes) {
-        (OfPredicate::Des, rest)
-    } else {
-        return None;
-    };
-    Some(RuleNamed { rule, rest })
+    named(bytes)
 }
 
 /// The place of a rule that takes one.

@@ -4,32 +4,13 @@ ghost use Rattle.test_tables.specs.Sound.{AreSoundTables};
 use crate::refusal::RowRefused;
 use crate::tables::Tables;
 use literal_map::BankUse;
+use refute_print::NamedRule;
 use tableau_calculus::{OfPredicate, OnePlace, RuleUse, TwoPlaces};
 
-const ONE: &[(&str, OnePlace)] = &[
-    ("False", OnePlace::False),
-    ("Refl", OnePlace::Refl),
-    ("Imp+", OnePlace::ImpPos),
-    ("Imp-", OnePlace::ImpNeg),
-    ("Bool+", OnePlace::BoolPos),
-    ("Bool-", OnePlace::BoolNeg),
-    ("Fun+", OnePlace::FunPos),
-    ("Fun-", OnePlace::FunNeg),
-    ("All-", OnePlace::AllNeg),
-    ("Dec", OnePlace::Dec),
-];
-
-const TWO: &[(&str, TwoPlaces)] = &[
-    ("Close", TwoPlaces::Close),
-    ("Mat", TwoPlaces::Mat),
-    ("Con", TwoPlaces::Con),
-];
-
-const PREDICATE: &[(&str, OfPredicate)] = &[("Cho", OfPredicate::Cho), ("Des", OfPredicate::Des)];
-
-fn named<K: Copy>(rules: &[(&str, K)], name: &str) -> Option<K> {
-    for (text, rule) in rules {
-        if *text == name {
+/// The rule of the list with the name.
+fn named<K: NamedRule>(name: &str) -> Option<K> {
+    for rule in K::rules() {
+        if rule.mark().strip_suffix(b"(") == Some(name.as_bytes()) {
             return Some(*rule);
         }
     }
@@ -47,16 +28,16 @@ pub fn use_of(tables: &mut Tables, text: &str) -> Result<BankUse, RowRefused>
     ensures { AreSoundTables tables.new }
 {
     let (name, words) = two(text)?;
-    if let Some(rule) = named(ONE, name) {
+    if let Some(rule) = named::<OnePlace>(name) {
         return Ok(RuleUse::AtOne(rule, tables.signed(words)?));
     }
-    if let Some(rule) = named(TWO, name) {
+    if let Some(rule) = named::<TwoPlaces>(name) {
         let (first, second) = two(words)?;
         let first = tables.signed(first)?;
         let second = tables.signed(second)?;
         return Ok(RuleUse::AtTwo(rule, first, second));
     }
-    if let Some(rule) = named(PREDICATE, name) {
+    if let Some(rule) = named::<OfPredicate>(name) {
         return Ok(RuleUse::WithPredicate(rule, tables.term(words)?));
     }
     match name {

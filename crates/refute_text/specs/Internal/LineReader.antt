@@ -3,15 +3,12 @@ use Rattle.std.specs.Prelude.{ℕ, ◌==◌, ◌^◌, length, Bool, true, false,
 use Rattle.tableau_calculus.specs.declared.refutation.Child.{Child}
 use Rattle.tableau_calculus.specs.declared.refutation.Child.TheVariants.{Closed, Line as Numbered}
 use Rattle.tableau_calculus.specs.declared.rule_use.OnePlace.{OnePlace}
-use Rattle.tableau_calculus.specs.declared.rule_use.OnePlace.TheVariants.{False, Refl, ImpPos, ImpNeg, BoolPos, BoolNeg, FunPos, FunNeg, AllNeg, Dec}
 use Rattle.tableau_calculus.specs.declared.rule_use.TwoPlaces.{TwoPlaces}
-use Rattle.tableau_calculus.specs.declared.rule_use.TwoPlaces.TheVariants.{Close, Mat, Con}
 use Rattle.tableau_calculus.specs.declared.rule_use.OfPredicate.{OfPredicate}
-use Rattle.tableau_calculus.specs.declared.rule_use.OfPredicate.TheVariants.{Cho, Des}
 use Rattle.tableau_calculus.specs.declared.rule_use.RuleUse.{RuleUse}
 use Rattle.tableau_calculus.specs.declared.rule_use.RuleUse.TheVariants.{AtOne, AtTwo, AllPos, WithPredicate, Cut}
 use Rattle.refute_print.specs.Trees.{TermTree, LiteralTree, LineTree}
-use Rattle.refute_print.specs.Text.{one_place_name, two_places_name, predicate_name}
+use Rattle.refute_print.specs.Text.{one_place_name, one_place_rules, two_places_name, two_places_rules, predicate_name, predicate_rules}
 use Rattle.refute_print.specs.Limits.{is_negated_text, greatest_depth}
 use Rattle.refute_text.specs.Internal.Reader.{◌>>=◌, behind_text, by_front, number_at, name_at, repeated_at, with_items}
 use Rattle.refute_text.specs.Internal.TermReader.{term_text_at}
@@ -56,15 +53,6 @@ place_text_at bytes = do
 abbrev pub named_first : {K : Type 0} → (K → List ℕ) → List K → List ℕ → Option (K × List ℕ)
 named_first name [] bytes = None
 named_first name (k ∷ ks) bytes = by_front (behind_text (name k ++ codes "(") bytes) (λ rest. Some (k, rest)) (named_first name ks bytes)
-
-abbrev pub one_place_rules : List OnePlace
-one_place_rules = False ∷ Refl ∷ ImpPos ∷ ImpNeg ∷ BoolPos ∷ BoolNeg ∷ FunPos ∷ FunNeg ∷ AllNeg ∷ Dec ∷ []
-
-abbrev pub two_places_rules : List TwoPlaces
-two_places_rules = Close ∷ Mat ∷ Con ∷ []
-
-abbrev pub predicate_rules : List OfPredicate
-predicate_rules = Cho ∷ Des ∷ []
 
 unfoldable pub one_place_named : List ℕ → Option (OnePlace × List ℕ)
 one_place_named bytes = named_first one_place_name one_place_rules bytes

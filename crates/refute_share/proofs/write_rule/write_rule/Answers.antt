@@ -7,19 +7,19 @@ use Rattle.refute_share.proofs.write_rule.write_rule.Goals as goal
 
 pub returns-in-AtOne-clause-took : goal.returns-in-AtOne-clause-took
 returns-in-AtOne-clause-took g c =
-    rw (c.in-AtOne.is) (took_same _ _ _ _ _ c.write_numbered.result _ _ (behind_mark c.one_place_mark.result.now (one_place_name c.in-AtOne.kind) (decimal c.in-AtOne.i ++ codes ")") c.one_place_mark.ensures) c.write_numbered.ensures.took)
+    rw (c.in-AtOne.is) (took_same _ _ _ _ _ c.write_numbered.result _ _ (behind_mark c.mark.result.now (one_place_name c.in-AtOne.kind) (decimal c.in-AtOne.i ++ codes ")") c.mark.ensures) c.write_numbered.ensures.took)
 
 pub returns-in-AtOne-clause-stopped : goal.returns-in-AtOne-clause-stopped
 returns-in-AtOne-clause-stopped g c =
-    rw (c.in-AtOne.is) (stopped_same _ _ _ _ _ c.write_numbered.result _ _ (behind_mark c.one_place_mark.result.now (one_place_name c.in-AtOne.kind) (decimal c.in-AtOne.i ++ codes ")") c.one_place_mark.ensures) c.write_numbered.ensures.stopped)
+    rw (c.in-AtOne.is) (stopped_same _ _ _ _ _ c.write_numbered.result _ _ (behind_mark c.mark.result.now (one_place_name c.in-AtOne.kind) (decimal c.in-AtOne.i ++ codes ")") c.mark.ensures) c.write_numbered.ensures.stopped)
 
 pub returns-in-AtTwo-clause-took : goal.returns-in-AtTwo-clause-took
 returns-in-AtTwo-clause-took g c =
-    rw (c.in-AtTwo.is) (took_same _ _ _ _ _ c.write_two_places.result _ _ (behind_mark c.two_places_mark.result.now (two_places_name c.in-AtTwo.kind) (decimal c.in-AtTwo.i ++ (codes "," ++ (decimal c.in-AtTwo.j ++ codes ")"))) c.two_places_mark.ensures) c.write_two_places.ensures.took)
+    rw (c.in-AtTwo.is) (took_same _ _ _ _ _ c.write_two_places.result _ _ (behind_mark c.mark-in-AtTwo.result.now (two_places_name c.in-AtTwo.kind) (decimal c.in-AtTwo.i ++ (codes "," ++ (decimal c.in-AtTwo.j ++ codes ")"))) c.mark-in-AtTwo.ensures) c.write_two_places.ensures.took)
 
 pub returns-in-AtTwo-clause-stopped : goal.returns-in-AtTwo-clause-stopped
 returns-in-AtTwo-clause-stopped g c =
-    rw (c.in-AtTwo.is) (stopped_same _ _ _ _ _ c.write_two_places.result _ _ (behind_mark c.two_places_mark.result.now (two_places_name c.in-AtTwo.kind) (decimal c.in-AtTwo.i ++ (codes "," ++ (decimal c.in-AtTwo.j ++ codes ")"))) c.two_places_mark.ensures) c.write_two_places.ensures.stopped)
+    rw (c.in-AtTwo.is) (stopped_same _ _ _ _ _ c.write_two_places.result _ _ (behind_mark c.mark-in-AtTwo.result.now (two_places_name c.in-AtTwo.kind) (decimal c.in-AtTwo.i ++ (codes "," ++ (decimal c.in-AtTwo.j ++ codes ")"))) c.mark-in-AtTwo.ensures) c.write_two_places.ensures.stopped)
 
 pub returns-in-AllPos-clause-took : goal.returns-in-AllPos-clause-took
 returns-in-AllPos-clause-took g c = rw (c.in-AllPos.is, ← c.deref.ensures) c.write_instance.ensures.took
@@ -30,12 +30,12 @@ returns-in-AllPos-clause-stopped g c = rw (c.in-AllPos.is, ← c.deref.ensures) 
 pub returns-in-WithPredicate-clause-took : goal.returns-in-WithPredicate-clause-took
 returns-in-WithPredicate-clause-took g c =
     let names = names_of c.args.sig.now.bases c.args.sig.now.consts in
-    rw (c.in-WithPredicate.is, ← c.deref-in-WithPredicate.ensures) (took_same _ _ _ _ _ c.write_term_between.result _ _ (behind_mark c.predicate_mark.result.now (predicate_name c.in-WithPredicate.kind) (term_text (named_term names c.deref-in-WithPredicate.result.now) ++ codes ")") c.predicate_mark.ensures) c.write_term_between.ensures.took)
+    rw (c.in-WithPredicate.is, ← c.deref-in-WithPredicate.ensures) (took_same _ _ _ _ _ c.write_term_between.result _ _ (behind_mark c.mark-in-WithPredicate.result.now (predicate_name c.in-WithPredicate.kind) (term_text (named_term names c.deref-in-WithPredicate.result.now) ++ codes ")") c.mark-in-WithPredicate.ensures) c.write_term_between.ensures.took)
 
 pub returns-in-WithPredicate-clause-stopped : goal.returns-in-WithPredicate-clause-stopped
 returns-in-WithPredicate-clause-stopped g c =
     let names = names_of c.args.sig.now.bases c.args.sig.now.consts in
-    rw (c.in-WithPredicate.is, ← c.deref-in-WithPredicate.ensures) (stopped_same _ _ _ _ _ c.write_term_between.result _ _ (behind_mark c.predicate_mark.result.now (predicate_name c.in-WithPredicate.kind) (term_text (named_term names c.deref-in-WithPredicate.result.now) ++ codes ")") c.predicate_mark.ensures) c.write_term_between.ensures.stopped)
+    rw (c.in-WithPredicate.is, ← c.deref-in-WithPredicate.ensures) (stopped_same _ _ _ _ _ c.write_term_between.result _ _ (behind_mark c.mark-in-WithPredicate.result.now (predicate_name c.in-WithPredicate.kind) (term_text (named_term names c.deref-in-WithPredicate.result.now) ++ codes ")") c.mark-in-WithPredicate.ensures) c.write_term_between.ensures.stopped)
 
 pub returns-in-Cut-clause-took : goal.returns-in-Cut-clause-took
 returns-in-Cut-clause-took g c = rw (c.in-Cut.is) c.write_cut.ensures.took
