@@ -14,6 +14,7 @@ use crate::analysis::refuted_chain;
 use crate::marks::Marks;
 use crate::restarts::Restarts;
 use crate::shorten::learned_chain;
+use crate::sides::Sides;
 use crate::spares::Spares;
 use sat_base::{Clause, ClauseStore};
 use sat_log::{Chain, Log, Premise};
@@ -46,6 +47,7 @@ pub struct Learner {
     inserted_results: usize,
     marks: Marks,
     spares: Spares,
+    sides: Sides,
     used: Vec<usize>,
 }
 
@@ -68,6 +70,7 @@ impl Learner {
             inserted_results: 0,
             marks: Marks::new(alloc),
             spares: Spares::new(alloc),
+            sides: Sides::new(alloc),
             used: Vec::new(alloc),
         }
     }
@@ -286,7 +289,8 @@ impl Learner {
         )
     }
 
-    /// Pushes a chain into the log. The variables that took part in the conflict are proposed sooner.
+    /// Pushes a chain into the log. The variables that took part in the conflict are proposed sooner, where there is no memory fewer of
+    /// them.
     fn learn(&mut self, chain: Chain) -> Result<(), AllocError>
         requires learner { IsLearner self.old }
         requires open { self.old.is_refuted ≡ false }
@@ -299,7 +303,10 @@ impl Learner {
         ensures err { OnErr result (self.new.log ≡ self.old.log) }
     {
         self.log.push(&self.clauses, chain)?;
-        self.propagator.bump(self.marks.met(), self.used.as_slice());
+        let names = self.names.as_slice();
+        let _found = self.sides.find(&self.propagator, names, &self.marks);
+        self.propagator
+            .bump(self.sides.found(), self.used.as_slice());
         Ok(())
     }
 

@@ -7,6 +7,7 @@ mod learner;
 mod marks;
 mod restarts;
 mod shorten;
+mod sides;
 mod solver;
 mod spares;
 mod uses;

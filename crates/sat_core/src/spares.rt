@@ -1,4 +1,5 @@
 //! Which literals of a clause follow from its others.
+ghost use Rattle.std.specs.Prelude.{◌<◌, length, IfSome};
 
 use crate::marks::Marks;
 use sat_base::Var;
@@ -170,6 +171,14 @@ impl Spares {
 
 /// The literals of the clause that made a variable's literal true, if one did.
 fn reason_of(propagator: &Propagator, var: Var) -> Option<&[Packed]> {
+    let reason = reason_number(propagator, var)?;
+    Some(propagator.literals(reason))
+}
+
+/// The number of the clause that made a variable's literal true, if one did.
+pub fn reason_number(propagator: &Propagator, var: Var) -> Option<usize>
+    ensures { IfSome result (λ n. n < length propagator.now.clauses.items) }
+{
     let place = propagator.trail.find(var)?;
     if place >= propagator.trail.len() {
         return None;
@@ -178,5 +187,5 @@ fn reason_of(propagator: &Propagator, var: Var) -> Option<&[Packed]> {
     if reason >= propagator.clauses.len() {
         return None;
     }
-    Some(propagator.literals(reason))
+    Some(reason)
 }

@@ -1,0 +1,104 @@
+//! Which variables are proposed sooner after a conflict.
+
+use crate::marks::Marks;
+use crate::spares::reason_number;
+use sat_base::Var;
+use sat_log::Premise;
+use sat_propagate::Propagator;
+use std::alloc::{AllocError, Global};
+
+/// The variables that took part in a conflict: those that were met, and for each literal that was learned the other variable of the clause
+/// that made it false, where that is an added one of two literals. Its list is kept from one conflict to the next. Nothing rests on what is
+/// found.
+#[derive(Drop)]
+pub struct Sides {
+    noted: Vec<bool>,
+    found: Vec<Var>,
+}
+
+impl Sides {
+    pub fn new(alloc: Global) -> Self {
+        Sides {
+            noted: Vec::new(alloc),
+            found: Vec::new(alloc),
+        }
+    }
+
+    /// The variables that were found, each once.
+    pub fn found(&self) -> &[Var] {
+        self.found.as_slice()
+    }
+
+    /// Finds the variables that were met, and the other ones of the pairs that made what was learned false. The marked ones are those of
+    /// what was learned.
+    pub fn find(
+        &mut self,
+        propagator: &Propagator,
+        names: &[Premise],
+        marks: &Marks,
+    ) -> Result<(), AllocError> {
+        self.restart(propagator.trail.variables())?;
+        for var in marks.met() {
+            self.note(*var)?;
+        }
+        for var in marks.met() {
+            if marks.contains(*var) {
+                self.note_pair(propagator, names, *var)?;
+            }
+        }
+        Ok(())
+    }
+
+    /// Forgets what was found.
+    fn restart(&mut self, variables: usize) -> Result<(), AllocError> {
+        for var in self.found.as_slice() {
+            if let Some(slot) = self.noted.get_mut(var.0) {
+                *slot = false;
+            }
+        }
+        self.found.clear();
+        if self.noted.len() < variables {
+            self.noted.resize(variables, false)?;
+        }
+        Ok(())
+    }
+
+    /// Notes the variables of the clause that made a variable's literal true, where it is an added one of two literals.
+    fn note_pair(
+        &mut self,
+        propagator: &Propagator,
+        names: &[Premise],
+        var: Var,
+    ) -> Result<(), AllocError> {
+        let Some(reason) = reason_number(propagator, var) else {
+            return Ok(());
+        };
+        let literals = propagator.literals(reason);
+        if literals.len() != 2 || !is_added(names, reason) {
+            return Ok(());
+        }
+        for literal in literals {
+            self.note(literal.literal().var)?;
+        }
+        Ok(())
+    }
+
+    fn note(&mut self, var: Var) -> Result<(), AllocError> {
+        let Some(slot) = self.noted.get_mut(var.0) else {
+            return Ok(());
+        };
+        if !*slot {
+            *slot = true;
+            self.found.push(var)?;
+        }
+        Ok(())
+    }
+}
+
+/// Whether a clause of the propagator is one that was added, and not learned.
+fn is_added(names: &[Premise], n: usize) -> bool {
+    match names.get(n) {
+        Some(Premise::Clause(_)) => true,
+        _ => false,
+    }
+}
