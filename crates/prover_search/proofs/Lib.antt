@@ -11,7 +11,7 @@ mod BasisLaws
 pub mod PreparedLaws
 pub mod SearchLaws
 mod ShapedLaws
-mod ConnectiveHeads
+mod ConnectiveLaws
 mod AloneUses
 mod WorkLaws
 mod AdvanceLaws

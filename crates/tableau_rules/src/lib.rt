@@ -17,4 +17,5 @@ mod spine;
 mod witness;
 
 pub use maker::make;
+pub use part::{Sides, implication_of, is_falsity};
 pub use refusal::RuleRefused;

@@ -18,7 +18,7 @@ pub(crate) struct Spine<'a> {
 
 /// The sides of an implication.
 #[derive(Clone, Copy)]
-pub(crate) struct Sides {
+pub struct Sides {
     pub left: Id,
     pub right: Id,
 }
@@ -118,7 +118,7 @@ fn quantifier_type(head: &Head) -> Option<&Ty>
 }
 
 /// Whether the term is falsity.
-pub(crate) fn is_falsity(bank: &Bank, id: Id) -> bool
+pub fn is_falsity(bank: &Bank, id: Id) -> bool
     requires { id < length bank.now.terms }
     ensures { IsTrue result ↔ (term_at bank.now.terms id ≡ constant falsity) }
 {
@@ -135,7 +135,7 @@ pub(crate) fn is_falsity(bank: &Bank, id: Id) -> bool
 }
 
 /// The sides of the term, where it is an implication.
-pub(crate) fn implication_of(bank: &Bank, id: Id) -> Option<Sides>
+pub fn implication_of(bank: &Bank, id: Id) -> Option<Sides>
     requires { id < length bank.now.terms }
     ensures { IsImplicationOf bank.now (term_at bank.now.terms id) result }
 {

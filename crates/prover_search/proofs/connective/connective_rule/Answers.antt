@@ -1,19 +1,21 @@
-use Rattle.std.proofs.Common.{map, sym, ap, ◌∙◌}
-use Rattle.std.proofs.lemmas.List.{length-map}
-use Rattle.term_bank.specs.Terms.{term_at, shape_term}
-use Rattle.term_bank.specs.NodeView.{the_shape}
+use Rattle.std.proofs.Common.{true, false, sym, ap, ap₂, ◌∙◌, true≢false}
+use Rattle.stt_core.specs.Lambda.{falsity, constant, imp}
 use Rattle.search_spec.specs.Processing.{connective_rule}
-use Rattle.prover_search.proofs.ConnectiveHeads.{named}
+use Rattle.prover_search.proofs.ConnectiveLaws.{named, without_connective}
 use Rattle.prover_search.proofs.connective.connective_rule.Goals as goal
 
-pub returns-in-App : goal.returns-in-App
-returns-in-App c =
-    let ts = c.args.basis.now.bank.terms in
-    let is = c.in-App.args in
-    c.rule_by_head.ensures (map (term_at ts) is) (length-map is (term_at ts) ∙ sym c.len.ensures)
-    ∙ sym (ap (λ t. named (connective_rule t c.args.lit.positive)) (sym c.atom_of.ensures.atom ∙ c.node.ensures.term ∙ ap (λ n. shape_term ts (the_shape n)) c.in-App.is))
+pub returns-then-lit : goal.returns-then-lit
+returns-then-lit c = sym (ap₂ (λ t b. named (connective_rule t b)) (sym c.atom_of-atom.ensures.atom ∙ c.is_falsity.ensures.0 c.if-is_falsity.true) c.if-lit.true)
 
-pub returns-in-Lam : goal.returns-in-Lam
-returns-in-Lam c =
-    let ts = c.args.basis.now.bank.terms in
-    sym (ap (λ t. named (connective_rule t c.args.lit.positive)) (sym c.atom_of.ensures.atom ∙ c.node.ensures.term ∙ ap (λ n. shape_term ts (the_shape n)) c.in-Lam.is))
+pub returns-then-is_falsity : goal.returns-then-is_falsity
+returns-then-is_falsity c = sym (ap₂ (λ t b. named (connective_rule t b)) (sym c.atom_of-atom.ensures.atom ∙ c.is_falsity.ensures.0 c.if-is_falsity.true) c.if-lit.false)
+
+pub returns-then-lit-2 : goal.returns-then-lit-2
+returns-then-lit-2 c = sym (ap₂ (λ t b. named (connective_rule t b)) (sym c.atom_of-atom.ensures.atom ∙ c.in-Some.ensures.0) c.if-lit-2.true)
+
+pub returns-else-lit-2 : goal.returns-else-lit-2
+returns-else-lit-2 c = sym (ap₂ (λ t b. named (connective_rule t b)) (sym c.atom_of-atom.ensures.atom ∙ c.in-Some.ensures.0) c.if-lit-2.false)
+
+pub returns-in-None : goal.returns-in-None
+returns-in-None c =
+    without_connective c.args.lit.positive _ (λ e. true≢false (sym (c.is_falsity.ensures.1 (c.atom_of-atom.ensures.atom ∙ e)) ∙ c.if-is_falsity.false)) (λ s u e. c.in-None.ensures s u (c.atom_of-atom.ensures.atom ∙ e))

@@ -9,7 +9,7 @@ use Rattle.prover_state.specs.Internal.Standing.{setting_by, the_state}
 use Rattle.prover_state.proofs.SelectingLaws.{on-ok}
 use Rattle.prover_search.specs.declared.shape.Shape.TheVariants.{Other}
 use Rattle.prover_search.proofs.ShapedLaws.{shaped-as}
-use Rattle.prover_search.proofs.ConnectiveHeads.{rule_named, none_named, alone-makes_none}
+use Rattle.prover_search.proofs.ConnectiveLaws.{rule_named, none_named, alone-makes_none}
 use Rattle.prover_search.proofs.AloneUses.{Takes, alone-takes}
 use Rattle.prover_search.proofs.WorkLaws.{worked-other}
 use Rattle.prover_search.proofs.work.work_on_other.Goals as goal
