@@ -305,8 +305,8 @@ impl Learner {
         self.log.push(&self.clauses, chain)?;
         let names = self.names.as_slice();
         let _found = self.sides.find(&self.propagator, names, &self.marks);
-        self.propagator
-            .bump(self.sides.found(), self.used.as_slice());
+        let variables = self.sides.found_or(self.marks.met());
+        self.propagator.bump(variables, self.used.as_slice());
         Ok(())
     }
 

@@ -1,4 +1,5 @@
 //! Which variables are proposed sooner after a conflict.
+ghost use Rattle.std.specs.Prelude.{◌<◌, length, IfSome};
 
 use crate::marks::Marks;
 use crate::spares::reason_number;
@@ -8,8 +9,8 @@ use sat_propagate::Propagator;
 use std::alloc::{AllocError, Global};
 
 /// The variables that took part in a conflict: those that were met, and for each literal that was learned the other variable of the clause
-/// that made it false, where that is an added one of two literals. Its list is kept from one conflict to the next. Nothing rests on what is
-/// found.
+/// that made it false, where that is an added one of two literals. None are found where there is no such clause. The lists are kept from
+/// one conflict to the next. Nothing rests on what is found.
 #[derive(Drop)]
 pub struct Sides {
     noted: Vec<bool>,
@@ -24,13 +25,17 @@ impl Sides {
         }
     }
 
-    /// The variables that were found, each once.
-    pub fn found(&self) -> &[Var] {
-        self.found.as_slice()
+    /// The variables that were found, each once, or the ones that were met where there are no others.
+    pub fn found_or<'a>(&'a self, met: &'a [Var]) -> &'a [Var] {
+        if self.found.is_empty() {
+            met
+        } else {
+            self.found.as_slice()
+        }
     }
 
-    /// Finds the variables that were met, and the other ones of the pairs that made what was learned false. The marked ones are those of
-    /// what was learned.
+    /// Finds the variables that were met, and the other ones of the pairs that made what was learned false, if there is such a pair. The
+    /// marked ones are those of what was learned.
     pub fn find(
         &mut self,
         propagator: &Propagator,
@@ -38,6 +43,20 @@ impl Sides {
         marks: &Marks,
     ) -> Result<(), AllocError> {
         self.restart(propagator.trail.variables())?;
+        for var in marks.met() {
+            if marks.contains(*var) && pair_of(propagator, names, *var).is_some() {
+                return self.find_all(propagator, names, marks);
+            }
+        }
+        Ok(())
+    }
+
+    fn find_all(
+        &mut self,
+        propagator: &Propagator,
+        names: &[Premise],
+        marks: &Marks,
+    ) -> Result<(), AllocError> {
         for var in marks.met() {
             self.note(*var)?;
         }
@@ -63,21 +82,17 @@ impl Sides {
         Ok(())
     }
 
-    /// Notes the variables of the clause that made a variable's literal true, where it is an added one of two literals.
+    /// Notes the variables of the pair that made a variable's literal true, if one did.
     fn note_pair(
         &mut self,
         propagator: &Propagator,
         names: &[Premise],
         var: Var,
     ) -> Result<(), AllocError> {
-        let Some(reason) = reason_number(propagator, var) else {
+        let Some(pair) = pair_of(propagator, names, var) else {
             return Ok(());
         };
-        let literals = propagator.literals(reason);
-        if literals.len() != 2 || !is_added(names, reason) {
-            return Ok(());
-        }
-        for literal in literals {
+        for literal in propagator.literals(pair) {
             self.note(literal.literal().var)?;
         }
         Ok(())
@@ -93,6 +108,17 @@ impl Sides {
         }
         Ok(())
     }
+}
+
+/// The number of the clause that made a variable's literal true, where it is an added one of two literals.
+fn pair_of(propagator: &Propagator, names: &[Premise], var: Var) -> Option<usize>
+    ensures { IfSome result (λ n. n < length propagator.now.clauses.items) }
+{
+    let reason = reason_number(propagator, var)?;
+    if propagator.literals(reason).len() != 2 || !is_added(names, reason) {
+        return None;
+    }
+    Some(reason)
 }
 
 /// Whether a clause of the propagator is one that was added, and not learned.
