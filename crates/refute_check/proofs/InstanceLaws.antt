@@ -10,7 +10,7 @@ use Rattle.stt_core.specs.Typing.{Scope}
 use Rattle.tableau_calculus.specs.Literals.{Literal, minus}
 use Rattle.tableau_calculus.specs.Witnesses.{Row}
 use Rattle.tableau_calculus.specs.RuleUses.{principals_of, EachPart}
-use Rattle.tableau_calculus.specs.Rules.{PlainRule, Rule, AreAt, IsInstance, all_neg_rule}
+use Rattle.tableau_calculus.specs.Rules.{PlainRule, Rule, AreAt, IsInstance, alone_rule, all_neg_rule}
 use Rattle.tableau_calculus.specs.declared.rule_use.OnePlace.TheVariants.{AllNeg}
 use Rattle.tableau_calculus.specs.declared.rule_use.RuleUse.TheVariants.{AtOne, AtTwo, AllPos, WithPredicate, Cut}
 use Rattle.term_bank.specs.Content.{Content}
@@ -117,6 +117,7 @@ denied_of : (scope : Scope) (rows : List Row) (branch : List Literal) (as' : Lis
 denied_of scope rows branch as' h = go h.principals as' h.fits h.at_places
   where
     go : (ps : List Literal) (as' : List (List Literal)) → Rule scope rows (AtOne AllNeg 0) ps as' → AreAt branch (0 ∷ []) ps → IsDenied rows branch
+    go _ _ (alone_rule _ _ l _ x) g = elim x [ ]
     go _ _ (all_neg_rule i k a f at) g = record { type = a; predicate = f; row = k; at = at; literal = g.0 }
 
 module _ (old new : Shared) (good : IsGoodShared old) (w : Widens old.bank new.bank) (begins : Begins old.lits new.lits) (equal : EqualIdsForEqualTerms new.bank) (ls : List Literal) (r : PlainRule) (by : UseByNumbers) (taken : IsTaken old ls r by) where
