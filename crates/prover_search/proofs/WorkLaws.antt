@@ -1,5 +1,5 @@
 -- What the work on a literal makes of the state.
-use Rattle.std.specs.Prelude.{◌≡◌, ◌&&◌, ◌++◌, ℕ, suc, Bool, true, false, [], ◌∷◌, map, length, if◌then◌else◌, refl}
+use Rattle.std.specs.Prelude.{◌≡◌, ◌&&◌, ◌++◌, ℕ, suc, Bool, true, false, [], ◌∷◌, map, length, Option, Some, None, if◌then◌else◌, refl}
 use Rattle.std.specs.List.{list_any}
 use Rattle.std.proofs.Common.{sym, ap, ap₂, ◌∙◌, subst}
 use Rattle.stt_core.specs.SimpleType.{SimpleType, base, arrow}
@@ -22,7 +22,7 @@ use Rattle.search_spec.specs.Preparing.{with_preparation}
 use Rattle.search_spec.specs.Witness.{same_row, witness_of, with_witness}
 use Rattle.search_spec.proofs.RowLaws.{no_row}
 use Rattle.search_spec.specs.Selections.{selections_in, with_selections}
-use Rattle.search_spec.specs.Processing.{connective_rule, with_connective, with_rules, with_equation, with_decomposition, with_confrontations, with_matings, with_processing}
+use Rattle.search_spec.specs.Processing.{LiteralRule, connective_rule, with_connective, with_rules, with_equation, with_decomposition, with_confrontations, with_matings, with_processing}
 use Rattle.term_bank.specs.Terms.{term_at}
 use Rattle.literal_map.specs.Atoms.{bank_literal}
 use Rattle.prover_state.specs.declared.command.Planned.{Planned}
@@ -86,6 +86,13 @@ module _ (setting : Setting) (st : State) where
           → with_connective (record { positive = b; atom = t }) setting (connective_rule t b) st ≡ with_rules setting b t st
       by_sign true t k = sym k.0
       by_sign false t k = sym k.1
+
+  -- the connective has this rule, or none
+  pub worked-by_rule : (l : Literal) → IsConnected l.atom → (rule : LiteralRule l) → connective_rule l.atom l.positive ≡ Some rule → with_instance setting.mode (l ∷ []) rule.alternatives st ≡ with_rules setting l.positive l.atom st
+  worked-by_rule l h rule e = sym (ap (λ (o : Option (LiteralRule l)). with_connective l setting o st) e) ∙ worked-other l h
+
+  pub worked-mated : (l : Literal) → IsConnected l.atom → connective_rule l.atom l.positive ≡ None → with_matings setting l st ≡ with_rules setting l.positive l.atom st
+  worked-mated l h e = sym (ap (λ (o : Option (LiteralRule l)). with_connective l setting o st) e) ∙ worked-other l h
 
 pub differs-as : (l k : Literal) → l ≡ k → denies_itself l ≡ false → denies_itself k ≡ false
 differs-as l k e h = ap denies_itself (sym e) ∙ h

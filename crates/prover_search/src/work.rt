@@ -47,9 +47,10 @@ fn work_on_other<W: Weigher<Waiting>>(core: &mut Core<W>, lit: SatLit) -> Result
     ensures lasts { lasting core.new.tables ≡ lasting core.old.tables }
 {
     match connective_rule(&core.tables.basis, lit) {
-        Some(rule) => apply_alone(core, rule, lit),
-        None => mate_with_noted(core, lit),
+        Some(rule) => apply_alone(core, rule, lit)?,
+        None => mate_with_noted(core, lit)?,
     }
+    Ok(())
 }
 
 /// What the shape of a literal asks for, unless it denies that a term equals itself.

@@ -1,17 +1,16 @@
-use Rattle.std.proofs.Common.{Some, None, refl, sym, ap, ◌∙◌, subst}
+use Rattle.std.proofs.Common.{refl, sym, ap, ◌∙◌, subst}
 use Rattle.tableau_calculus.specs.Literals.{Literal}
 use Rattle.tableau_calculus.specs.declared.rule_use.OnePlace.{OnePlace}
 use Rattle.literal_map.specs.Atoms.{bank_literal}
-use Rattle.search_spec.specs.Processing.{LiteralRule, connective_rule, with_connective}
+use Rattle.search_spec.specs.Processing.{connective_rule}
 use Rattle.search_spec.specs.State.{State, Setting}
 use Rattle.tableau_rules.specs.Changes.{makes_witness}
 use Rattle.prover_state.specs.Internal.Standing.{setting_by, the_state}
-use Rattle.prover_state.proofs.SelectingLaws.{on-ok}
 use Rattle.prover_search.specs.declared.shape.Shape.TheVariants.{Other}
 use Rattle.prover_search.proofs.ShapedLaws.{shaped-as}
 use Rattle.prover_search.proofs.ConnectiveLaws.{rule_named, none_named, alone-makes_none}
 use Rattle.prover_search.proofs.AloneUses.{Takes, alone-takes}
-use Rattle.prover_search.proofs.WorkLaws.{worked-other}
+use Rattle.prover_search.proofs.WorkLaws.{worked-by_rule, worked-mated}
 use Rattle.prover_search.proofs.work.work_on_other.Goals as goal
 
 pub apply_alone-requires-clause-unwitnessed : goal.apply_alone-requires-clause-unwitnessed
@@ -29,8 +28,8 @@ apply_alone-requires-clause-fits g c =
     let n = rule_named l c.in-Some.rule (connective_rule l.atom l.positive) (sym c.in-Some.is ∙ c.connective_rule.ensures) in
     (n.rule.alternatives, subst (λ k. Takes basis lit k n.rule.alternatives) (sym n.kind_is) (alone-takes basis lit n.rule.kind l n.rule.alternatives n.rule.fits refl))
 
-pub returns-in-Some-clause-state : goal.returns-in-Some-clause-state
-returns-in-Some-clause-state g c =
+pub returns-in_ok-apply_alone-in-Some-clause-state : goal.returns-in_ok-apply_alone-in-Some-clause-state
+returns-in_ok-apply_alone-in-Some-clause-state g c =
     let core = c.args.core.now in
     let basis = core.tables.basis in
     let lit = c.args.lit in
@@ -39,18 +38,14 @@ returns-in-Some-clause-state g c =
     let s : State = the_state core.tables core.plan in
     let n = rule_named l c.in-Some.rule (connective_rule l.atom l.positive) (sym c.in-Some.is ∙ c.connective_rule.ensures) in
     let takes = subst (λ k. Takes basis lit k n.rule.alternatives) (sym n.kind_is) (alone-takes basis lit n.rule.kind l n.rule.alternatives n.rule.fits refl) in
-    on-ok c.apply_alone.result
-    (λ h. h n.rule.alternatives takes ∙ ap (λ o. with_connective l setting o s) (sym n.is) ∙ worked-other setting s l (shaped-as l.atom Other c.requires.shape))
-    c.apply_alone.ensures.state
+    c.in_ok-apply_alone-in-Some.ensures.state n.rule.alternatives takes ∙ worked-by_rule setting s l (shaped-as l.atom Other c.requires.shape) n.rule n.is
 
-pub returns-in-None-clause-state : goal.returns-in-None-clause-state
-returns-in-None-clause-state g c =
+pub returns-in_ok-mate_with_noted-in-None-clause-state : goal.returns-in_ok-mate_with_noted-in-None-clause-state
+returns-in_ok-mate_with_noted-in-None-clause-state g c =
     let core = c.args.core.now in
     let basis = core.tables.basis in
     let l : Literal = bank_literal basis.bank.terms basis.lits c.args.lit in
     let setting : Setting = setting_by core.tables core.plan in
     let s : State = the_state core.tables core.plan in
     let none = none_named l (connective_rule l.atom l.positive) (sym c.in-None.is ∙ c.connective_rule.ensures) in
-    on-ok c.mate_with_noted.result
-    (λ h. h ∙ ap (λ o. with_connective l setting o s) (sym none) ∙ worked-other setting s l (shaped-as l.atom Other c.requires.shape))
-    c.mate_with_noted.ensures.state
+    c.in_ok-mate_with_noted-in-None.ensures.state ∙ worked-mated setting s l (shaped-as l.atom Other c.requires.shape) none
