@@ -55,6 +55,7 @@ use Rattle.satallax_top.specs.Headline.{EnoughAsked, IsReportedSo, IsTreeMade, I
 use Rattle.request_answers.proofs.OneLine.{name_one_line}
 use Rattle.request_answers.proofs.ReportHolds.{holds_report, accepted_report}
 use Rattle.request_answers.proofs.SolvedLaws.{Asked, proof_of_start, proof_accepted}
+use Rattle.satallax_top.proofs.ToldFiles.{all_told}
 
 -- no model meets a problem for which a text is accepted
 no_model_of : (p : PlainProblem) (t : RefutationTree) → IsTyped p → IsAcceptedFor p t → IsWithoutModel p
