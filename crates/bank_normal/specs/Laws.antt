@@ -17,9 +17,19 @@ MemosStayRight = (n : Normaliser) (old new : Content) → Grows old new → IsRi
 -- names stand for the same terms when the bank grows
 abbrev pub FormsStay : Type 0
 FormsStay =
-    (old new : Content) (fs : List FormId) → Grows old new → AreForms old fs → AreForms new fs × (forms_in new.terms fs ≡ forms_in old.terms fs)
+    (old new : Content) (fs : List FormId)
+    → Grows old new
+    → AreForms old fs
+    → AreForms new fs × (forms_in new.terms fs ≡ forms_in old.terms fs)
 
 -- A further name may stand for the form, by the earlier names, of a closed term of its type.
 abbrev pub FormFollows : Type 0
 FormFollows =
-    (old new : Content) (fs : List FormId) (f : FormId) (t : Lambda) (a : SimpleType) → IsScope (content_scope old) → Grows old new → AreForms old fs → slice_get (content_scope old).names f.place ≡ Some a → type_of (content_scope old) [] t ≡ Some a → HasTerm new f.id (normal_form_by (content_scope old) (forms_in old.terms fs) [] t) → AreForms new (fs ++ f ∷ [])
+    (old new : Content) (fs : List FormId) (f : FormId) (t : Lambda) (a : SimpleType)
+    → IsScope (content_scope old)
+    → Grows old new
+    → AreForms old fs
+    → slice_get (content_scope old).names f.place ≡ Some a
+    → type_of (content_scope old) [] t ≡ Some a
+    → HasTerm new f.id (normal_form_by (content_scope old) (forms_in old.terms fs) [] t)
+    → AreForms new (fs ++ f ∷ [])

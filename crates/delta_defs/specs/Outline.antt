@@ -43,7 +43,8 @@ pub record IsOutline (o : Outline) (ds : List Definition) : Type 0 where
 
 -- whether a definition may follow, told without the terms of the earlier ones
 abbrev pub may_follow_outline : Outline → ℕ → Lambda → Bool
-may_follow_outline o place t = nat_le (nodes_in o.nodes t) node_limit && (not (contains nat_cmp o.involved place) && not (mentions (name place) t))
+may_follow_outline o place t =
+    nat_le (nodes_in o.nodes t) node_limit && (not (contains nat_cmp o.involved place) && not (mentions (name place) t))
 
 -- it is the outline of the definitions, and the names are theirs in order
 pub record IsNamedOutline (o : Outline) (names : List ℕ) (ds : List Definition) : Type 0 where

@@ -1,5 +1,5 @@
 -- What is offered to holes, by what occurs in terms.
-use Rattle.std.specs.Prelude.{ℕ, ◌+◌, ◌||◌, Bool, List, length}
+use Rattle.std.specs.Prelude.{◌+◌, ◌||◌, Bool, List, length}
 use Rattle.std.specs.List.{list_any}
 use Rattle.stt_core.specs.Lambda.{Constant, Lambda}
 use Rattle.stt_core.specs.Typing.{Scope}

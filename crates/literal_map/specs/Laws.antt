@@ -1,7 +1,6 @@
 -- What numbers and atoms keep.
 use Rattle.std.specs.Prelude.{◌≡◌, ℕ, ◌<◌, List, length, All}
 use Rattle.sat_base.specs.declared.literal.SatLit.{SatLit}
-use Rattle.stt_core.specs.Lambda.{Lambda}
 use Rattle.term_bank.specs.Content.{Content, Grows}
 use Rattle.literal_map.specs.Atoms.{bank_literal, IsAtom, Begins}
 

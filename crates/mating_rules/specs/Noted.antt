@@ -22,7 +22,8 @@ are_partners s t = if is_spine s then same_head s t else equates_alike s t
 -- the partners of a literal among those that were noted, in order: they have the other sign
 abbrev pub partners_of : List Lambda → List ℕ → SatLit → List SatLit → List SatLit
 partners_of terms atoms l noted =
-    filter (λ m. not (same_sign l.positive m.positive) && are_partners (bank_atom terms atoms l.var.0) (bank_atom terms atoms m.var.0)) noted
+    filter (λ m. not (same_sign l.positive m.positive) && are_partners (bank_atom terms atoms l.var.0) (bank_atom terms atoms m.var.0))
+        noted
 
 -- the positive and the negative ones of some literals, in order
 pub record Signed : Type 0 where
@@ -55,4 +56,6 @@ has_pairing_head h t = false
 -- the index is right over a bank and a table: each noted literal has a number, and it is kept under the head that its atom has
 pub record IsRightIndex (terms : List Lambda) (atoms : List ℕ) (i : Notes) : Type 0 where
   pub numbers : All (λ l. l.var.0 < length atoms) i.noted
-  pub kept : (h : Lambda) (sign : Bool) → kept_under h sign i.heads ≡ filter (λ l. same_sign sign l.positive && has_pairing_head h (bank_atom terms atoms l.var.0)) i.noted
+  pub kept :
+      (h : Lambda) (sign : Bool)
+      → kept_under h sign i.heads ≡ filter (λ l. same_sign sign l.positive && has_pairing_head h (bank_atom terms atoms l.var.0)) i.noted

@@ -23,7 +23,8 @@ EndsWith slots start (Limit total) = ScheduleEnds slots start (limit total)
 EndsWith slots start (Spent conflicts) = IsSpentIn slots start conflicts
 
 -- The run of the slot of this number is proved after so many commands; it is there, and is left so.
-pub record IsLeft {S : Type 0} (Left : Setting → ℕ → S → Type 0) (slots : List Slot) (start : List Literal) (runs : List (Option S)) (number : ℕ) : Type 0 where
+pub record IsLeft {S : Type 0} (Left : Setting → ℕ → S → Type 0) (slots : List Slot) (start : List Literal) (runs : List (Option S))
+    (number : ℕ) : Type 0 where
   pub slot : Slot
   pub its_slot : slice_get slots number ≡ Some slot
   pub commands : ℕ

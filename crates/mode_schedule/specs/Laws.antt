@@ -7,7 +7,8 @@ use Rattle.mode_schedule.specs.Turns.{Slot, End, closed, empty, ScheduleEnds}
 
 -- a schedule ends in one way at most
 abbrev pub SchedulesEndOneWay : Type 0
-SchedulesEndOneWay = (slots : List Slot) (start : List Literal) (e e' : End) → ScheduleEnds slots start e → ScheduleEnds slots start e' → e ≡ e'
+SchedulesEndOneWay =
+    (slots : List Slot) (start : List Literal) (e e' : End) → ScheduleEnds slots start e → ScheduleEnds slots start e' → e ≡ e'
 
 -- the run of this number is proved
 abbrev pub IsProvedRun : List Slot → List Literal → ℕ → Type 0
@@ -19,27 +20,44 @@ IsClosedEnd e = (block total : ℕ) × (e ≡ closed block total)
 
 -- where a run closes the schedule, it is proved
 abbrev pub ClosedRunsAreProved : Type 0
-ClosedRunsAreProved = (slots : List Slot) (start : List Literal) (block total : ℕ) → ScheduleEnds slots start (closed block total) → IsProvedRun slots start block
+ClosedRunsAreProved =
+    (slots : List Slot) (start : List Literal) (block total : ℕ)
+    → ScheduleEnds slots start (closed block total)
+    → IsProvedRun slots start block
 
 -- however a schedule ends, it is closed exactly where some run is proved
 abbrev pub ClosedExactlyWhereProved : Type 0
-ClosedExactlyWhereProved = (slots : List Slot) (start : List Literal) (e : End) → ScheduleEnds slots start e → IsClosedEnd e ↔ ((block : ℕ) × IsProvedRun slots start block)
+ClosedExactlyWhereProved =
+    (slots : List Slot) (start : List Literal) (e : End)
+    → ScheduleEnds slots start e
+    → IsClosedEnd e ↔ ((block : ℕ) × IsProvedRun slots start block)
 
 abbrev pub two_slots : ℕ → Setting → ℕ → Setting → List Slot
 two_slots m s n t = record { slice = m; setting = s } ∷ record { slice = n; setting = t } ∷ []
 
 -- worked examples: slices of 3 and 100, where the first run is proved after 8 commands, which are its third turn's second one ..
 abbrev pub FirstCloses : Type 0
-FirstCloses = (first second : Setting) (start : List Literal) → IsProved first start 8 → ScheduleEnds (two_slots 3 first 100 second) start (closed 0 8)
+FirstCloses =
+    (first second : Setting) (start : List Literal)
+    → IsProved first start 8
+    → ScheduleEnds (two_slots 3 first 100 second) start (closed 0 8)
 
 -- .. slices of 1, where the first run has no command left after one, and the second may carry out none ..
 abbrev pub FirstHasNoneLeft : Type 0
-FirstHasNoneLeft = (first second : Setting) (start : List Literal) → IsExhausted first start 1 → IsStopped second start 0 → ScheduleEnds (two_slots 1 first 1 second) start (empty 1)
+FirstHasNoneLeft =
+    (first second : Setting) (start : List Literal)
+    → IsExhausted first start 1
+    → IsStopped second start 0
+    → ScheduleEnds (two_slots 1 first 1 second) start (empty 1)
 
 -- .. and slices of 1, where both runs are proved: the second one's fourth turn finds it so after seven commands, four of them the first
 -- one's
 abbrev pub SecondCloses : Type 0
-SecondCloses = (first second : Setting) (start : List Literal) → IsProved first start 9 → IsProved second start 3 → ScheduleEnds (two_slots 1 first 1 second) start (closed 1 7)
+SecondCloses =
+    (first second : Setting) (start : List Literal)
+    → IsProved first start 9
+    → IsProved second start 3
+    → ScheduleEnds (two_slots 1 first 1 second) start (closed 1 7)
 
 abbrev pub ExamplesEnd : Type 0
 ExamplesEnd = FirstCloses × FirstHasNoneLeft × SecondCloses

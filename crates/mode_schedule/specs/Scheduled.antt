@@ -26,7 +26,8 @@ pub record IsRefutedIn (p : PlainProblem) (blocks : List Block) (number : ℕ) (
 
 -- how the schedule of the blocks over the problem ends, where it is closed with the refutation of the run that closes it
 abbrev pub EndsBy : PlainProblem → List Block → Scheduled → Type 0
-EndsBy p blocks (Closed block total refutation) = ScheduleEnds (slots_for p blocks) (start p) (closed block total) × IsRefutedIn p blocks block refutation
+EndsBy p blocks (Closed block total refutation) =
+    ScheduleEnds (slots_for p blocks) (start p) (closed block total) × IsRefutedIn p blocks block refutation
 EndsBy p blocks (Empty total) = ScheduleEnds (slots_for p blocks) (start p) (empty total)
 EndsBy p blocks (Limit total) = ScheduleEnds (slots_for p blocks) (start p) (limit total)
 EndsBy p blocks (Spent conflicts) = IsSpentIn (slots_for p blocks) (start p) conflicts

@@ -40,11 +40,15 @@ done_by c turn = slice_index c.done turn.command
 
 -- the turn is taken, and its run carries out k commands
 abbrev pub taken : Course → Entry ℕ → ℕ → Course
-taken c turn k = record c { done = slice_set c.done turn.command (done_by c turn + k); turns = without_number turn.number c.turns; total = c.total + k }
+taken c turn k =
+    record c { done = slice_set c.done turn.command (done_by c turn + k); turns = without_number turn.number c.turns; total = c.total + k }
 
 -- the run of the turn waits for its next one, which is due when as many commands more were carried out as its slice has
 abbrev pub pushed_again : Slot → Entry ℕ → Course → Course
-pushed_again slot turn c = record c { turns = c.turns ++ (record { due = c.total + slot.slice; number = c.pushes; command = turn.command }) ∷ []; pushes = c.pushes + 1 }
+pushed_again slot turn c =
+    record c {
+      turns = c.turns ++ (record { due = c.total + slot.slice; number = c.pushes; command = turn.command }) ∷ [];
+      pushes = c.pushes + 1 }
 
 -- a run was found with no command left
 abbrev pub exhausted_by : Course → Course
@@ -65,11 +69,17 @@ pub data ScheduleEndsFrom (slots : List Slot) (start : List Literal) : Course �
   closes : (c : Course) (turn : Entry ℕ) (slot : Slot) (k : ℕ) → IsNextTurn slots c turn slot → k < slot.slice
       → IsProved slot.setting start (done_by c turn + k) → ScheduleEndsFrom slots start c (closed turn.command (c.total + k))
   has_none_left : (c : Course) (turn : Entry ℕ) (slot : Slot) (k : ℕ) (e : End) → IsNextTurn slots c turn slot → k < slot.slice
-      → IsExhausted slot.setting start (done_by c turn + k) → ScheduleEndsFrom slots start (exhausted_by (taken c turn k)) e → ScheduleEndsFrom slots start c e
+      → IsExhausted slot.setting start (done_by c turn + k)
+          → ScheduleEndsFrom slots start (exhausted_by (taken c turn k)) e
+          → ScheduleEndsFrom slots start c e
   is_at_limit : (c : Course) (turn : Entry ℕ) (slot : Slot) (k : ℕ) (e : End) → IsNextTurn slots c turn slot → k < slot.slice
-      → IsStopped slot.setting start (done_by c turn + k) → ScheduleEndsFrom slots start (taken c turn k) e → ScheduleEndsFrom slots start c e
+      → IsStopped slot.setting start (done_by c turn + k)
+          → ScheduleEndsFrom slots start (taken c turn k) e
+          → ScheduleEndsFrom slots start c e
   goes_on : (c : Course) (turn : Entry ℕ) (slot : Slot) (e : End) → IsNextTurn slots c turn slot
-      → GoesOnUntil slot.setting start (done_by c turn + slot.slice) → ScheduleEndsFrom slots start (pushed_again slot turn (taken c turn slot.slice)) e → ScheduleEndsFrom slots start c e
+      → GoesOnUntil slot.setting start (done_by c turn + slot.slice)
+          → ScheduleEndsFrom slots start (pushed_again slot turn (taken c turn slot.slice)) e
+          → ScheduleEndsFrom slots start c e
   no_turn_left : (c : Course) → c.turns ≡ [] → ScheduleEndsFrom slots start c (if c.exhausted then empty c.total else limit c.total)
 
 -- how the schedule of these runs ends

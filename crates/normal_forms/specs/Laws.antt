@@ -17,7 +17,8 @@ HaveSameValue scope ctx s t =
 -- the normal form of a typed term is canonical, and has its type
 abbrev pub NormalFormsAreCanonical : Type 0
 NormalFormsAreCanonical =
-    (scope : Scope) (ctx : List SimpleType) (t : Lambda) (ready : IsNormalisable scope ctx t) → IsCanonical scope ctx ready.type (normal_form scope ctx t)
+    (scope : Scope) (ctx : List SimpleType) (t : Lambda) (ready : IsNormalisable scope ctx t)
+    → IsCanonical scope ctx ready.type (normal_form scope ctx t)
 
 -- the normal form of a typed term has its value
 abbrev pub NormalFormsKeepValues : Type 0
@@ -32,7 +33,8 @@ CanonicalTermsAreNormal =
 -- a canonical function applied to a canonical argument gives a canonical term, of the type that the function gives
 abbrev pub ApplyKeepsTypes : Type 0
 ApplyKeepsTypes =
-    (scope : Scope) (ctx : List SimpleType) (f u : Lambda) (applies : Applies scope ctx f u) → IsCanonical scope ctx applies.result (apply f u)
+    (scope : Scope) (ctx : List SimpleType) (f u : Lambda) (applies : Applies scope ctx f u)
+    → IsCanonical scope ctx applies.result (apply f u)
 
 -- it has the value of the application
 abbrev pub ApplyKeepsValues : Type 0
@@ -43,19 +45,37 @@ ApplyKeepsValues =
 -- applied to them one after the other. `front` has the types of the binders that are passed.
 abbrev pub ArgumentsAreReplacedFirst : Type 0
 ArgumentsAreReplacedFirst =
-    (scope : Scope) (front ctx : List SimpleType) (a : SimpleType) (r : Lambda) (us : List Lambda) → IsCanonical scope ctx a r → ArgumentsFit scope (front ++ a ∷ ctx) a us → replace (ways a) (length front) r (applied (bound (length front)) us) ≡ apply_each (lift_by (length front) zero r) (map (replace (ways a) (length front) r) us)
+    (scope : Scope) (front ctx : List SimpleType) (a : SimpleType) (r : Lambda) (us : List Lambda)
+    → IsCanonical scope ctx a r
+    → ArgumentsFit scope (front ++ a ∷ ctx) a us
+    → replace (ways a) (length front) r (applied (bound (length front)) us)
+            ≡ apply_each (lift_by (length front) zero r) (map (replace (ways a) (length front) r) us)
 
 -- where another variable is the head, it takes the arguments as they become
 abbrev pub OtherHeadsStay : Type 0
 OtherHeadsStay =
-    (a : SimpleType) (k j : ℕ) (r : Lambda) (us : List Lambda) → j ≢ k → replace (ways a) k r (applied (bound j) us) ≡ applied (put k r j) (map (replace (ways a) k r) us)
+    (a : SimpleType) (k j : ℕ) (r : Lambda) (us : List Lambda)
+    → j ≢ k
+    → replace (ways a) k r (applied (bound j) us) ≡ applied (put k r j) (map (replace (ways a) k r) us)
 
 -- A term that is lifted by one binder has the same value, whatever value the new variable has, under any number of binders.
 abbrev pub LiftKeepsValues : Type 0
 LiftKeepsValues =
-    (scope : Scope) (m : Model) (front : List SimpleType) (es : List ℕ) → length es ≡ length front → (b : SimpleType) (x : ℕ) (ctx : List SimpleType) (env : List ℕ) (t : Lambda) → value scope m (front ++ b ∷ ctx) (es ++ x ∷ env) (lift (length front) t) ≡ value scope m (front ++ ctx) (es ++ env) t
+    (scope : Scope) (m : Model) (front : List SimpleType) (es : List ℕ)
+    → length es ≡ length front
+    → (b : SimpleType) (x : ℕ) (ctx : List SimpleType) (env : List ℕ) (t : Lambda)
+    → value scope m (front ++ b ∷ ctx) (es ++ x ∷ env) (lift (length front) t) ≡ value scope m (front ++ ctx) (es ++ env) t
 
 -- A term with r for a variable has the value that it has where the value of r is that of the variable, under any number of binders.
 abbrev pub ReplaceKeepsValues : Type 0
 ReplaceKeepsValues =
-    (scope : Scope) (m : Model) → IsModel scope m → (front ctx : List SimpleType) (es env : List ℕ) → length es ≡ length front → Fits m (front ++ ctx) (es ++ env) → (a b : SimpleType) (r t : Lambda) → IsCanonical scope ctx a r → IsCanonical scope (front ++ a ∷ ctx) b t → value scope m (front ++ ctx) (es ++ env) (replace (ways a) (length front) r t) ≡ value scope m (front ++ a ∷ ctx) (es ++ value scope m ctx env r ∷ env) t
+    (scope : Scope) (m : Model)
+    → IsModel scope m
+    → (front ctx : List SimpleType) (es env : List ℕ)
+    → length es ≡ length front
+    → Fits m (front ++ ctx) (es ++ env)
+    → (a b : SimpleType) (r t : Lambda)
+    → IsCanonical scope ctx a r
+    → IsCanonical scope (front ++ a ∷ ctx) b t
+    → value scope m (front ++ ctx) (es ++ env) (replace (ways a) (length front) r t)
+            ≡ value scope m (front ++ a ∷ ctx) (es ++ value scope m ctx env r ∷ env) t

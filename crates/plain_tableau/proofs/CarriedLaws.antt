@@ -1,7 +1,7 @@
 -- Expansions in numbers stand for expansions in formulas.
 use Rattle.std.specs.Prelude.{if◌then◌else◌}
-use Rattle.std.proofs.Common.{◌≡◌, ◌<◌, ◌≤◌, ◌+◌, ◌||◌, ◌&&◌, ◌++◌, ℕ, zero, suc, cond, not, Bool, true, false, List, [], ◌∷◌, length, map, Option, Some, None, option_map, slice_get, refl, sym, ap, ap₂, ◌∙◌, subst, arith}
-use Rattle.std.specs.List.{list_any, list_all, position_or_len}
+use Rattle.std.proofs.Common.{◌≡◌, ◌<◌, ◌≤◌, ◌+◌, ◌||◌, ◌&&◌, ◌++◌, ℕ, zero, suc, cond, not, Bool, true, false, List, [], ◌∷◌, map, Some, option_map, slice_get, refl, sym, ap, ap₂, ◌∙◌, subst}
+use Rattle.std.specs.List.{list_any, position_or_len}
 use Rattle.std.proofs.lemmas.Option.{slice_get-map}
 use Rattle.stt_core.specs.Lambda.{Lambda}
 use Rattle.tableau_calculus.specs.Literals.{Literal, opposite}
@@ -11,11 +11,11 @@ use Rattle.tableau_calculus.specs.Kinds.{has, added}
 use Rattle.tableau_calculus.specs.Each.{Each}
 use Rattle.search_spec.specs.Numbered.{numbers, literal_at, IsNumber, AreApart}
 use Rattle.tableau_calculus.specs.Kinds.{formulas}
-use Rattle.search_spec.proofs.NamingLaws.{StandFor, each-joined, has-mapped, added-mapped}
+use Rattle.search_spec.proofs.NamingLaws.{each-joined, has-mapped, added-mapped}
 use Rattle.search_spec.proofs.UnsatLaws.{numbers_stand}
 use Rattle.rebuild_spec.specs.Input.{literals_of}
 use Rattle.plain_tableau.specs.Trees.{TreeInstance, PlainTree, closed, node, PlainTrees, none, more, nodes_in, nodes_in_all}
-use Rattle.plain_tableau.specs.Expansion.{is_closed_branch, has_all, is_due, next_due, Expanded, found, open_at, over, put_under, put_before, Expands, closes, stays_open, is_over, makes, ExpandEach, no_more, open_below, over_below, goes_on, first_clash, closing, Expansion, at_once, not_at_once, grows}
+use Rattle.plain_tableau.specs.Expansion.{is_closed_branch, has_all, is_due, next_due, Expanded, found, open_at, over, put_under, put_before, Expands, closes, stays_open, is_over, makes, ExpandEach, no_more, open_below, over_below, goes_on, first_clash, Expansion, at_once, not_at_once, grows}
 use Rattle.plain_tableau.specs.Carried.{instance_in, tree_in, trees_in, result_in, IsNumberedInstance, NumbersExpandAsFormulas}
 
 abbrev results_in : List Lambda → Expanded SatLit (PlainTrees SatLit) → Expanded Literal (PlainTrees Literal)

@@ -1,30 +1,27 @@
 -- Literals that are added one after the other, and the literals of start units.
 use Rattle.std.specs.Prelude.{if◌then◌else◌}
-use Rattle.std.proofs.Common.{◌≡◌, ◌<◌, ◌≤◌, ◌+◌, ◌++◌, ℕ, zero, suc, Bool, true, false, List, [], ◌∷◌, length, map, take, reverse, get_or, Option, Some, None, option_map, unwrap_or, slice_get, Contains, refl, sym, ap, ap₂, ◌∙◌, subst, arith}
+use Rattle.std.proofs.Common.{◌≡◌, ◌<◌, ◌≤◌, ◌+◌, ◌++◌, ℕ, zero, suc, List, [], ◌∷◌, length, map, take, reverse, get_or, Some, slice_get, refl, sym, ap, ap₂, ◌∙◌, subst, arith}
 use Rattle.std.specs.List.{All}
-use Rattle.std.proofs.lemmas.List.{append-nil, take_more, take_all, reverse-append}
-use Rattle.std.proofs.lemmas.Option.{slice_get-map, slice_get-get_or}
+use Rattle.std.proofs.lemmas.List.{append-nil, take_more, reverse-append}
 use Rattle.std.proofs.lemmas.List.Elements.{All-append}
 use Rattle.stt_core.specs.Lambda.{Lambda}
 use Rattle.stt_core.proofs.ListLaws.{map-append}
-use Rattle.tableau_calculus.specs.Literals.{Literal}
-use Rattle.tableau_calculus.specs.Witnesses.{Row, with_rows}
+use Rattle.tableau_calculus.specs.Witnesses.{Row}
 use Rattle.sat_base.specs.declared.literal.SatLit.{SatLit}
 use Rattle.sat_base.specs.Literal.{IsOver, holds}
 use Rattle.tableau_calculus.specs.Kinds.{added}
 use Rattle.search_spec.specs.Numbered.{numbers, literal_at}
-use Rattle.term_bank.specs.Content.{Content, content_scope}
+use Rattle.term_bank.specs.Content.{Content}
 use Rattle.literal_map.specs.declared.instance.Instance.{Instance as BankInstance}
 use Rattle.tableau_clauses.specs.declared.origin.Origin.{Origin}
 use Rattle.tableau_clauses.specs.declared.origin.Origin.TheVariants.{Start, Instance as From}
-use Rattle.tableau_clauses.specs.Table.{Step, Table, the_clauses, the_origins, the_instances, units_in, start_units}
+use Rattle.tableau_clauses.specs.Table.{Step, Table, the_instances, units_in, start_units}
 use Rattle.tableau_clauses.proofs.UnitLaws.{units-append}
 use Rattle.rebuild_spec.specs.Input.{literals_of}
-use Rattle.tableau_rebuild.specs.Tables.{atoms_at, the_instance, no_instance, unit_literals, start_literals_in}
+use Rattle.tableau_rebuild.specs.Tables.{unit_literals, start_literals_in}
 use Rattle.tableau_rebuild.specs.Conditions.{IsInstanceOver}
 use Rattle.tableau_rebuild.specs.Conditions.{IsGoodUse}
-use Rattle.plain_tableau.specs.Trees.{TreeInstance}
-use Rattle.plain_tableau.specs.Tables.{expanded, used_at, the_used, start_branch, IsUsable}
+use Rattle.plain_tableau.specs.Tables.{IsUsable}
 use Rattle.plain_tableau.specs.Internal.Due.{without_rule, at_number, AreLiteralsOver}
 
 -- literals that are added one after the other

@@ -1,20 +1,19 @@
 -- Trees as expansions make them.
-use Rattle.std.proofs.Common.{◌≡◌, ◌+◌, ◌<◌, ◌≤◌, ◌&&◌, not, ℕ, suc, Bool, true, false, List, [], ◌∷◌, map, Some, refl, sym, ap, ◌∙◌, subst, arith}
+use Rattle.std.proofs.Common.{◌≡◌, ◌+◌, ◌<◌, ◌≤◌, ◌&&◌, ℕ, suc, Bool, true, false, List, [], ◌∷◌, Some, refl, sym, ap, ◌∙◌, subst, arith}
 use Rattle.std.specs.List.{All}
-use Rattle.std.proofs.lemmas.Bool.{false≢true, and_parts, or_left, or_right}
+use Rattle.std.proofs.lemmas.Bool.{false≢true, and_parts}
 use Rattle.std.proofs.lemmas.List.Elements.{All-contains}
 use Rattle.stt_core.specs.Lambda.{Lambda}
 use Rattle.stt_core.specs.Typing.{Scope}
 use Rattle.tableau_calculus.specs.Witnesses.{Row}
 use Rattle.tableau_calculus.specs.Rules.{close_rule}
 use Rattle.sat_base.specs.declared.literal.SatLit.{SatLit}
-use Rattle.sat_base.specs.Literal.{negated, same_literal, holds}
-use Rattle.sat_base.proofs.LiteralLaws.{same_literal-refl}
+use Rattle.sat_base.specs.Literal.{negated, holds}
 use Rattle.tableau_calculus.specs.Kinds.{added}
 use Rattle.search_spec.specs.Numbered.{numbers, literal_at}
 use Rattle.rebuild_spec.proofs.LiteralLaws.{held_in}
 use Rattle.plain_tableau.specs.Trees.{TreeInstance, PlainTree, closed, node, PlainTrees, none, more, nodes_in, nodes_in_all}
-use Rattle.plain_tableau.specs.Expansion.{is_closed_branch, has_all, is_due, next_due, Expanded, found, open_at, over, put_under, put_before, Expands, closes, stays_open, is_over, makes, ExpandEach, no_more, open_below, over_below, goes_on, first_clash, closing, Expansion, at_once, not_at_once, grows}
+use Rattle.plain_tableau.specs.Expansion.{is_closed_branch, has_all, is_due, Expanded, found, open_at, over, put_under, put_before, Expands, closes, stays_open, is_over, makes, ExpandEach, no_more, open_below, over_below, goes_on, first_clash, closing, Expansion, at_once, not_at_once, grows}
 use Rattle.plain_tableau.specs.Given.{IsGivenInstance}
 use Rattle.plain_tableau.proofs.ListLaws.{first_passes, none_passes}
 

@@ -1,14 +1,12 @@
 -- The lines of a tree that closes its branch are right.
-use Rattle.std.proofs.Common.{◌≡◌, ◌+◌, ℕ, suc, Bool, true, false, List, [], ◌∷◌, ◌++◌, map, length, Some, slice_get, Contains, refl, sym, ap, ap₂, ◌∙◌, subst, append_assoc, add_assoc, length-append, arith}
-use Rattle.std.specs.List.{All}
+use Rattle.std.proofs.Common.{◌≡◌, ◌+◌, ℕ, List, [], ◌∷◌, ◌++◌, map, length, Some, slice_get, Contains, refl, sym, ap, ap₂, ◌∙◌, subst, append_assoc, length-append, arith}
 use Rattle.std.proofs.lemmas.List.{append-nil}
-use Rattle.std.proofs.lemmas.List.Elements.{All-append, All-cons, All-nil}
 use Rattle.stt_core.specs.Lambda.{Lambda}
 use Rattle.stt_core.specs.Typing.{Scope}
 use Rattle.tableau_calculus.specs.Literals.{Literal, plus, IsLiteral}
 use Rattle.tableau_calculus.specs.Witnesses.{Row}
-use Rattle.tableau_calculus.specs.Accepted.{Within, IsClosedBranch, ClosesBy, AreChildren, IsRightLine, AreRightLines}
-use Rattle.tableau_calculus.specs.declared.refutation.Child.TheVariants.{Closed, Line as Numbered}
+use Rattle.tableau_calculus.specs.Accepted.{Within, ClosesBy, AreChildren, IsRightLine, AreRightAfter}
+use Rattle.tableau_calculus.specs.declared.refutation.Child.TheVariants.{Line as Numbered}
 use Rattle.tableau_calculus.specs.declared.refutation.Line.{Line}
 use Rattle.sat_base.specs.declared.literal.SatLit.{SatLit}
 use Rattle.tableau_calculus.specs.Kinds.{added}
@@ -19,7 +17,6 @@ use Rattle.rebuild_spec.proofs.FlatLaws.{typed_branch}
 use Rattle.rebuild_spec.proofs.PlacedLaws.{fits_typed, instance_placed}
 use Rattle.plain_tableau.specs.Trees.{TreeInstance, PlainTree, closed, node, PlainTrees, none, more, nodes_in, nodes_in_all}
 use Rattle.plain_tableau.specs.Lines.{tree_child, tree_children, node_line, lines_for_tree, lines_for_trees}
-use Rattle.plain_tableau.specs.Given.{IsGivenInstance}
 use Rattle.plain_tableau.proofs.ListLaws.{get_middle}
 use Rattle.plain_tableau.proofs.BranchLaws.{added_within, added_closes, each_held}
 use Rattle.plain_tableau.proofs.GrownLaws.{IsGrown, AreGrown}
@@ -42,10 +39,10 @@ module _ (atoms : List Lambda) where
   count_behind front n t e = length-append front (lines_for_tree atoms n t) ∙ ap₂ (λ x y. x + y) e (count n t)
 
 -- right lines behind right lines
-right-append : (scope : Scope) (rows : List Row) (earlier front back : List Line) → AreRightLines scope rows earlier front → AreRightLines scope rows (earlier ++ front) back → AreRightLines scope rows earlier (front ++ back)
-right-append scope rows earlier [] back h k = subst (λ ls. AreRightLines scope rows ls back) (append-nil earlier) k
+right-append : (scope : Scope) (rows : List Row) (earlier front back : List Line) → AreRightAfter scope rows earlier front → AreRightAfter scope rows (earlier ++ front) back → AreRightAfter scope rows earlier (front ++ back)
+right-append scope rows earlier [] back h k = subst (λ ls. AreRightAfter scope rows ls back) (append-nil earlier) k
 right-append scope rows earlier (l ∷ front) back h k =
-    (h.0, right-append scope rows (earlier ++ l ∷ []) front back h.1 (subst (λ ls. AreRightLines scope rows ls back) (sym (append_assoc earlier (l ∷ []) front)) k))
+    (h.0, right-append scope rows (earlier ++ l ∷ []) front back h.1 (subst (λ ls. AreRightAfter scope rows ls back) (sym (append_assoc earlier (l ∷ []) front)) k))
 
 module _ (scope : Scope) (rows : List Row) (atoms : List Lambda) where
   -- the line of a node closes what its branch is within
@@ -93,13 +90,13 @@ module _ (scope : Scope) (rows : List Row) (atoms : List Lambda) where
         }
 
     mutual
-      pub lines_right : (front : List Line) (n : ℕ) → length front ≡ n → (t : PlainTree SatLit) (b : List SatLit) → IsGrown scope rows atoms t b → AreRightLines scope rows front (lines_for_tree atoms n t)
+      pub lines_right : (front : List Line) (n : ℕ) → length front ≡ n → (t : PlainTree SatLit) (b : List SatLit) → IsGrown scope rows atoms t b → AreRightAfter scope rows front (lines_for_tree atoms n t)
       lines_right front n e closed b h = tt
       lines_right front n e (node i c ts) b h =
           let here : IsGrown scope rows atoms (node i c ts) c = subst (IsGrown scope rows atoms (node i c ts)) (sym h.0) h in
           right-append scope rows front (lines_for_trees atoms n ts) (node_line atoms i c (tree_children n ts) ∷ []) (all_lines_right front n e ts i.alternatives b h.3) (node_right front n e i c ts here, tt)
 
-      all_lines_right : (front : List Line) (n : ℕ) → length front ≡ n → (ts : PlainTrees SatLit) (as' : List (List SatLit)) (b : List SatLit) → AreGrown scope rows atoms ts as' b → AreRightLines scope rows front (lines_for_trees atoms n ts)
+      all_lines_right : (front : List Line) (n : ℕ) → length front ≡ n → (ts : PlainTrees SatLit) (as' : List (List SatLit)) (b : List SatLit) → AreGrown scope rows atoms ts as' b → AreRightAfter scope rows front (lines_for_trees atoms n ts)
       all_lines_right front n e none as' b h = tt
       all_lines_right front n e (more t ts) [] b h = absurd h
       all_lines_right front n e (more t ts) (a ∷ as') b h =

@@ -1,7 +1,7 @@
 -- What the steps of the code make of a walk under way.
 use Rattle.std.specs.Prelude.{if◌then◌else◌}
-use Rattle.std.proofs.Common.{◌≡◌, ◌<◌, ◌≤◌, ◌+◌, ◌||◌, ◌++◌, ℕ, zero, suc, Bool, true, false, cond, not, List, [], ◌∷◌, length, map, take, drop, get_or, Option, Some, None, option_map, unwrap_or, slice_get, Contains, refl, sym, ap, ap₂, ◌∙◌, subst, append_assoc, length-append, arith}
-use Rattle.std.specs.List.{list_any, position_or_len}
+use Rattle.std.proofs.Common.{◌≡◌, ◌<◌, ◌≤◌, ◌+◌, ◌||◌, ◌++◌, ℕ, zero, suc, Bool, true, false, cond, not, List, [], ◌∷◌, length, take, drop, get_or, Option, Some, None, option_map, unwrap_or, slice_get, refl, sym, ap, ap₂, ◌∙◌, subst, append_assoc, length-append, arith}
+use Rattle.std.specs.List.{position_or_len}
 use Rattle.std.proofs.lemmas.List.{append-nil, take-append-drop, length-map}
 use Rattle.std.proofs.lemmas.Bool.{false≢true, or_left}
 use Rattle.std.proofs.lemmas.Option.{slice_get-map, slice_get-get_or, slice_get_past}
@@ -18,17 +18,17 @@ use Rattle.literal_map.specs.declared.instance.Instance.{Instance as BankInstanc
 use Rattle.tableau_clauses.specs.Table.{Table, the_instances}
 use Rattle.tableau_rebuild.specs.Tables.{the_instance, no_instance}
 use Rattle.rebuild_spec.proofs.LiteralLaws.{contains_held, held_in}
-use Rattle.plain_tableau.specs.Trees.{TreeInstance, PlainTree, closed, node, PlainTrees, none, more, nodes_in, nodes_in_all}
+use Rattle.plain_tableau.specs.Trees.{TreeInstance, PlainTree, closed, node, none, more, nodes_in_all}
 use Rattle.plain_tableau.specs.Expansion.{is_closed_branch, is_due, next_due, Expanded, found, open_at, over, Expands}
-use Rattle.plain_tableau.specs.Lines.{tree_child, tree_children, node_line, lines_for_tree, lines_for_trees}
+use Rattle.plain_tableau.specs.Lines.{tree_children, node_line, lines_for_trees}
 use Rattle.plain_tableau.specs.Tables.{expanded, used_at, the_used}
 use Rattle.plain_tableau.specs.declared.walk.Frame.{Frame}
 use Rattle.plain_tableau.specs.Internal.Due.{without_rule, is_due_at, clashes}
-use Rattle.plain_tableau.specs.Internal.Walking.{with_last, count, Below, with_tree, left_of, made_in, written, GoesEach, Goes, IsFrame, AreFrames, IsAhead, IsBack, IsWalkDone, WalkStands, IsFull, ComesTo}
+use Rattle.plain_tableau.specs.Internal.Walking.{count, Below, with_tree, left_of, made_in, written, GoesEach, Goes, AreFrames, IsAhead, IsBack, IsWalkDone, IsFull}
 use Rattle.plain_tableau.proofs.ListLaws.{one_passes}
 use Rattle.plain_tableau.proofs.DueLaws.{any_of, closed_added}
 use Rattle.plain_tableau.proofs.LineLaws.{count_all}
-use Rattle.plain_tableau.proofs.WalkingLaws.{size_last, count_last, children_last, children_count, lines_last, new_node, close_child, open_child, make_node, ends_open, ends_over, finish_whole, finish_below}
+use Rattle.plain_tableau.proofs.WalkingLaws.{size_last, children_last, children_count, lines_last, new_node, close_child, open_child, make_node, ends_open, ends_over, finish_whole, finish_below}
 
 -- lists
 drop_at : {A : Type 0} (n : ℕ) (xs : List A) (x : A) → slice_get xs n ≡ Some x → drop n xs ≡ x ∷ drop (suc n) xs

@@ -1,8 +1,8 @@
 -- An expansion comes to one thing at most.
-use Rattle.std.proofs.Common.{◌≡◌, ◌+◌, ◌<◌, ◌≤◌, ℕ, suc, Bool, true, false, List, [], ◌∷◌, Option, Some, None, refl, sym, ap, ap₂, ◌∙◌, subst, arith}
+use Rattle.std.proofs.Common.{◌≡◌, ◌+◌, ◌<◌, ◌≤◌, ℕ, suc, true, false, List, [], ◌∷◌, Some, None, refl, sym, ap, ap₂, ◌∙◌, subst, arith}
 use Rattle.tableau_calculus.specs.Kinds.{Kind, added}
-use Rattle.plain_tableau.specs.Trees.{TreeInstance, PlainTree, closed, node, PlainTrees, none, more, nodes_in}
-use Rattle.plain_tableau.specs.Expansion.{is_closed_branch, next_due, Expanded, found, open_at, over, put_under, put_before, Expands, closes, stays_open, is_over, makes, ExpandEach, no_more, open_below, over_below, goes_on, first_clash, closing, Expansion, at_once, not_at_once, grows}
+use Rattle.plain_tableau.specs.Trees.{TreeInstance, PlainTree, node, PlainTrees, none, nodes_in}
+use Rattle.plain_tableau.specs.Expansion.{is_closed_branch, next_due, Expanded, found, open_at, over, put_under, put_before, Expands, closes, stays_open, is_over, makes, ExpandEach, no_more, open_below, over_below, goes_on, closing, Expansion, at_once, not_at_once, grows}
 use Rattle.plain_tableau.specs.Laws.{OneExpansion}
 
 module _ {L : Type 0} (kind : Kind L) (used : List (TreeInstance L)) (limit : ℕ) where

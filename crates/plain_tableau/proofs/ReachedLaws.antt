@@ -4,12 +4,12 @@ use Rattle.std.proofs.lemmas.List.{append-nil}
 use Rattle.std.proofs.lemmas.Bool.{cases_lt}
 use Rattle.stt_core.specs.Lambda.{Lambda}
 use Rattle.tableau_calculus.specs.declared.refutation.Child.{Child}
-use Rattle.tableau_calculus.specs.declared.refutation.Child.TheVariants.{Closed, Line as Numbered}
+use Rattle.tableau_calculus.specs.declared.refutation.Child.TheVariants.{Line as Numbered}
 use Rattle.tableau_calculus.specs.declared.refutation.Line.{Line}
 use Rattle.tableau_calculus.proofs.ListLaws.{contains-first, contains-later}
 use Rattle.sat_base.specs.declared.literal.SatLit.{SatLit}
 use Rattle.rebuild_spec.specs.Trimmed.{IsReached, last, child_of as by_child, IsEachReached}
-use Rattle.plain_tableau.specs.Trees.{TreeInstance, PlainTree, closed, node, PlainTrees, none, more, nodes_in, nodes_in_all}
+use Rattle.plain_tableau.specs.Trees.{PlainTree, closed, node, PlainTrees, none, more, nodes_in, nodes_in_all}
 use Rattle.plain_tableau.specs.Lines.{tree_child, tree_children, node_line, lines_for_tree, lines_for_trees}
 use Rattle.plain_tableau.proofs.ListLaws.{get_middle}
 use Rattle.plain_tableau.proofs.LineLaws.{count, count_all, count_behind}

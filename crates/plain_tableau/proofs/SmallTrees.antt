@@ -1,19 +1,16 @@
 -- The terms of a tree's refutation are small where those of the clauses are.
-use Rattle.std.proofs.Common.{◌≡◌, ◌+◌, not, cond, ℕ, zero, suc, Bool, true, false, get_or, List, [], ◌∷◌, ◌++◌, map, filter, take, length, Option, Some, None, option_map, unwrap_or, slice_get, Contains, refl, sym, ap, ◌∙◌, subst, arith}
+use Rattle.std.proofs.Common.{◌≡◌, ◌+◌, not, cond, ℕ, suc, Bool, true, false, get_or, List, [], ◌∷◌, ◌++◌, map, Some, option_map, unwrap_or, slice_get, Contains, refl, sym, ap, ◌∙◌, subst, arith}
 use Rattle.std.specs.List.{All, AllByRecursion}
-use Rattle.std.proofs.lemmas.List.Elements.{All-contains}
 use Rattle.std.proofs.lemmas.Option.{slice_get-map}
-use Rattle.stt_core.specs.SimpleType.{SimpleType, base, arrow, formula}
-use Rattle.stt_core.specs.Lambda.{Constant, Lambda, bound, constant, lam, app, imp, eq}
+use Rattle.stt_core.specs.SimpleType.{SimpleType, base, arrow}
+use Rattle.stt_core.specs.Lambda.{Lambda, imp, eq}
 use Rattle.stt_core.specs.Typing.{Scope}
-use Rattle.tableau_calculus.specs.Literals.{Literal, opposite, as_literal}
-use Rattle.tableau_calculus.specs.Witnesses.{Row, with_rows}
+use Rattle.tableau_calculus.specs.Literals.{Literal}
+use Rattle.tableau_calculus.specs.Witnesses.{Row}
 use Rattle.tableau_calculus.specs.Kinds.{added}
 use Rattle.tableau_calculus.specs.Rules.{PlainRule, differ_each, fun_pos, fun_neg, Alone, Rule, alone_rule, close_rule, all_pos_rule, all_neg_rule, mat_rule, dec_rule, con_rule, cho_rule, des_rule, cut_rule}
 use Rattle.tableau_calculus.specs.declared.rule_use.OnePlace.{OnePlace}
 use Rattle.tableau_calculus.specs.declared.refutation.Child.{Child}
-use Rattle.tableau_calculus.specs.declared.refutation.Line.{Line}
-use Rattle.tableau_calculus.specs.declared.refutation.Refutation.{Refutation}
 use Rattle.tableau_calculus.proofs.AloneLaws.{IsOfParts, alone_parts}
 use Rattle.tableau_calculus.proofs.ListLaws.{contains_cases, contains-later, contains-first}
 use Rattle.sat_base.specs.declared.literal.SatLit.{SatLit}
@@ -24,26 +21,25 @@ use Rattle.sat_log.specs.Resolution.{without_literal, each_once}
 use Rattle.search_spec.specs.Clauses.{instance_clauses}
 use Rattle.tableau_calculus.specs.Each.{Each}
 use Rattle.search_spec.specs.Numbered.{numbers, literal_at}
-use Rattle.term_bank.specs.Content.{Content, content_scope}
-use Rattle.literal_map.specs.declared.instance.Instance.{Instance as BankInstance}
+use Rattle.term_bank.specs.Content.{Content}
 use Rattle.witness_names.specs.Rows.{rows_of}
 use Rattle.tableau_clauses.specs.declared.origin.Origin.{Origin}
 use Rattle.tableau_clauses.specs.declared.origin.Origin.TheVariants.{Start, Instance as From}
 use Rattle.tableau_clauses.specs.Table.{Step, Table, ComesFromOrigin, EachComes, the_instances, units_in, start_units}
 use Rattle.tableau_rules.specs.Uses.{use_of}
 use Rattle.refute_print.specs.Sizes.{IsSmallTerm, AreSmallLiterals, IsSmall}
-use Rattle.rebuild_spec.specs.Input.{Sourced, literals_of, Input}
-use Rattle.rebuild_spec.specs.Stands.{rule_at_places, place_in}
+use Rattle.rebuild_spec.specs.Input.{literals_of, Input}
+use Rattle.rebuild_spec.specs.Stands.{place_in}
 use Rattle.rebuild_spec.proofs.PickedLaws.{Picks, clause_picked}
-use Rattle.small_rebuilt.specs.Small.{TakesSmall, IsSmallSource, InputHasSmallTerms, HasSmallParts, AreNumbersInRange, AreTermsSmall}
+use Rattle.small_rebuilt.specs.Small.{TakesSmall, IsSmallSource, InputHasSmallTerms, HasSmallParts, AreNumbersInRange}
 use Rattle.small_rebuilt.proofs.SmallLaws.{placed_takes, taken_small}
 use Rattle.small_rebuilt.proofs.RangeLaws.{in_range_small}
 use Rattle.tableau_rebuild.specs.Tables.{no_literal, no_instance, atoms_at, the_instance, sourced, the_input}
 use Rattle.tableau_rebuild.specs.Conditions.{IsInstanceOver}
 use Rattle.tableau_rebuild.specs.UsedInstances.{IsUsedInstance}
 use Rattle.plain_tableau.specs.Trees.{TreeInstance, PlainTree, closed, node, PlainTrees, none, more, nodes_in}
-use Rattle.plain_tableau.specs.Expansion.{is_due, Expanded, found, open_at, over, put_under, put_before, Expands, closes, stays_open, is_over, makes, ExpandEach, no_more, open_below, over_below, goes_on, closing, Expansion, at_once, not_at_once, grows}
-use Rattle.plain_tableau.specs.Lines.{node_line, tree_children, lines_for_tree, lines_for_trees, IsOfTree}
+use Rattle.plain_tableau.specs.Expansion.{is_due, Expanded, found, open_at, over, put_under, put_before, Expands, closes, stays_open, is_over, makes, ExpandEach, no_more, open_below, over_below, goes_on, Expansion, at_once, not_at_once, grows}
+use Rattle.plain_tableau.specs.Lines.{node_line, tree_children, lines_for_tree, lines_for_trees}
 use Rattle.plain_tableau.specs.Small.{HasSmallAtom, AddsSmall, TreeTermsAreSmall}
 use Rattle.plain_tableau.specs.Tables.{expanded, used_at, the_used, start_branch, IsStripped, OfTree}
 use Rattle.plain_tableau.specs.declared.stripped.Stripped.{Stripped}

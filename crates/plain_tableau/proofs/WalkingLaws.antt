@@ -1,19 +1,14 @@
 -- The steps of a walk.
-use Rattle.std.proofs.Common.{◌≡◌, ◌<◌, ◌≤◌, ◌+◌, ◌++◌, ℕ, zero, suc, Bool, true, false, List, [], ◌∷◌, length, take, drop, Some, None, slice_get, refl, sym, ap, ap₂, ◌∙◌, subst, append_assoc, length-append, arith}
+use Rattle.std.proofs.Common.{◌≡◌, ◌<◌, ◌≤◌, ◌+◌, ◌++◌, ℕ, zero, suc, true, false, List, [], ◌∷◌, length, drop, Some, None, refl, sym, ap, ◌∙◌, subst, append_assoc, arith}
 use Rattle.std.proofs.lemmas.List.{append-nil}
 use Rattle.stt_core.specs.Lambda.{Lambda}
-use Rattle.tableau_calculus.specs.declared.refutation.Child.{Child}
-use Rattle.tableau_calculus.specs.declared.refutation.Child.TheVariants.{Closed, Line as Numbered}
-use Rattle.tableau_calculus.specs.declared.refutation.Line.{Line}
 use Rattle.sat_base.specs.declared.literal.SatLit.{SatLit}
 use Rattle.tableau_calculus.specs.Kinds.{added}
 use Rattle.search_spec.specs.Numbered.{numbers}
 use Rattle.plain_tableau.specs.Trees.{TreeInstance, PlainTree, closed, node, PlainTrees, none, more, nodes_in, nodes_in_all}
 use Rattle.plain_tableau.specs.Expansion.{is_closed_branch, next_due, Expanded, found, open_at, over, put_under, put_before, Expands, closes, stays_open, is_over, makes, ExpandEach, no_more, open_below, over_below, goes_on}
-use Rattle.plain_tableau.specs.Lines.{tree_child, tree_children, node_line, lines_for_tree, lines_for_trees}
-use Rattle.plain_tableau.specs.declared.walk.Frame.{Frame}
-use Rattle.plain_tableau.specs.Internal.Walking.{with_last, trees_joined, trees_behind, count, Below, with_tree, left_of, made_in, written, Returns, GoesEach, Goes, IsFrame, AreFrames, IsAhead, IsBack, IsWalkDone, WalkStands, IsFull}
-use Rattle.plain_tableau.proofs.LineLaws.{count_all}
+use Rattle.plain_tableau.specs.Lines.{tree_child, tree_children, lines_for_tree, lines_for_trees}
+use Rattle.plain_tableau.specs.Internal.Walking.{with_last, trees_joined, trees_behind, count, Below, with_tree, left_of, made_in, Returns, GoesEach, Goes}
 
 -- one tree more
 pub size_last : (ts : PlainTrees SatLit) (t : PlainTree SatLit) → nodes_in_all (with_last ts t) ≡ nodes_in_all ts + nodes_in t

@@ -12,7 +12,8 @@ use Rattle.plain_tableau.specs.Expansion.{Expanded, found, open_at, over, Expans
 
 -- what stands in numbers, in formulas
 abbrev pub instance_in : List Lambda → TreeInstance SatLit → TreeInstance Literal
-instance_in atoms i = record { rule = i.rule; principals = literals_of atoms i.principals; alternatives = map (literals_of atoms) i.alternatives }
+instance_in atoms i =
+    record { rule = i.rule; principals = literals_of atoms i.principals; alternatives = map (literals_of atoms) i.alternatives }
 
 abbrev mutual
   pub tree_in : List Lambda → PlainTree SatLit → PlainTree Literal
@@ -37,5 +38,8 @@ pub record IsNumberedInstance (atoms : List Lambda) (i : TreeInstance SatLit) : 
 abbrev pub NumbersExpandAsFormulas : Type 0
 NumbersExpandAsFormulas =
     (atoms : List Lambda) → AreApart atoms
-    → (used : List (TreeInstance SatLit)) (limit : ℕ) (start : List SatLit) (r : Expanded SatLit (PlainTree SatLit)) → Each (IsNumberedInstance atoms) used → Each (IsNumber atoms) start
-    → Expansion numbers used limit start r → Expansion formulas (map (instance_in atoms) used) limit (literals_of atoms start) (result_in atoms r)
+    → (used : List (TreeInstance SatLit)) (limit : ℕ) (start : List SatLit) (r : Expanded SatLit (PlainTree SatLit))
+        → Each (IsNumberedInstance atoms) used
+        → Each (IsNumber atoms) start
+    → Expansion numbers used limit start r
+        → Expansion formulas (map (instance_in atoms) used) limit (literals_of atoms start) (result_in atoms r)

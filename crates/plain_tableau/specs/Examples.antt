@@ -41,7 +41,9 @@ abbrev pub self_tree : PlainTree SatLit
 self_tree = node self_i0 (no 0 ∷ []) (more (node self_i1 (no 0 ∷ no 1 ∷ []) none) none)
 
 abbrev pub self_lines : List Line
-self_lines = record { branch = minus self_a0 ∷ minus self_a1 ∷ []; rule = AtOne Refl 1; children = [] } ∷ record { branch = minus self_a0 ∷ []; rule = AtOne AllNeg 0; children = Numbered 0 ∷ [] } ∷ []
+self_lines =
+    record { branch = minus self_a0 ∷ minus self_a1 ∷ []; rule = AtOne Refl 1; children = [] }
+    ∷ record { branch = minus self_a0 ∷ []; rule = AtOne AllNeg 0; children = Numbered 0 ∷ [] } ∷ []
 
 abbrev pub self_refutation : Refutation
 self_refutation = record { witnesses = self_rows; lines = self_lines }
@@ -62,11 +64,15 @@ abbrev pub pointwise_tree : PlainTree SatLit
 pointwise_tree = node pointwise_instance (yes 0 ∷ no 1 ∷ []) (more closed none)
 
 abbrev pub pointwise_tree_refutation : Refutation
-pointwise_tree_refutation = record { witnesses = []; lines = record { branch = plus pointwise_a0 ∷ minus pointwise_a1 ∷ []; rule = AtOne FunNeg 1; children = Closed ∷ [] } ∷ [] }
+pointwise_tree_refutation =
+    record {
+      witnesses = [];
+      lines = record { branch = plus pointwise_a0 ∷ minus pointwise_a1 ∷ []; rule = AtOne FunNeg 1; children = Closed ∷ [] } ∷ [] }
 
 abbrev pub PointwiseExpands : Type 0
 PointwiseExpands =
-    Expansion numbers (pointwise_instance ∷ []) 10 (yes 0 ∷ no 1 ∷ []) (found pointwise_tree) × IsOfTree (pointwise_a0 ∷ pointwise_a1 ∷ []) [] pointwise_tree pointwise_tree_refutation
+    Expansion numbers (pointwise_instance ∷ []) 10 (yes 0 ∷ no 1 ∷ []) (found pointwise_tree)
+    × IsOfTree (pointwise_a0 ∷ pointwise_a1 ∷ []) [] pointwise_tree pointwise_tree_refutation
 
 -- the worked examples expand as they are to
 abbrev pub ExamplesAreExpanded : Type 0

@@ -43,18 +43,45 @@ put_before t over = over
 
 mutual
   -- what comes of a branch, where so many nodes were made before
-  pub data Expands {L : Type 0} (kind : Kind L) (used : List (TreeInstance L)) (limit : ℕ) : ℕ → List L → Expanded L (PlainTree L) → Type 0 where
+  pub data Expands {L : Type 0} (kind : Kind L) (used : List (TreeInstance L)) (limit : ℕ) : ℕ → List L → Expanded L (PlainTree L) → Type 0
+      where
     closes : (made : ℕ) (branch : List L) → is_closed_branch kind branch ≡ true → Expands kind used limit made branch (found closed)
-    stays_open : (made : ℕ) (branch : List L) → is_closed_branch kind branch ≡ false → next_due kind used branch ≡ None → Expands kind used limit made branch (open_at branch)
-    is_over : (made : ℕ) (branch : List L) (i : TreeInstance L) → is_closed_branch kind branch ≡ false → next_due kind used branch ≡ Some i → limit ≤ made → Expands kind used limit made branch over
-    makes : (made : ℕ) (branch : List L) (i : TreeInstance L) (r : Expanded L (PlainTrees L)) → is_closed_branch kind branch ≡ false → next_due kind used branch ≡ Some i → made < limit → ExpandEach kind used limit (suc made) branch i.alternatives r → Expands kind used limit made branch (put_under i branch r)
+    stays_open :
+        (made : ℕ) (branch : List L)
+        → is_closed_branch kind branch ≡ false
+        → next_due kind used branch ≡ None
+        → Expands kind used limit made branch (open_at branch)
+    is_over :
+        (made : ℕ) (branch : List L) (i : TreeInstance L)
+        → is_closed_branch kind branch ≡ false
+        → next_due kind used branch ≡ Some i
+        → limit ≤ made
+        → Expands kind used limit made branch over
+    makes :
+        (made : ℕ) (branch : List L) (i : TreeInstance L) (r : Expanded L (PlainTrees L))
+        → is_closed_branch kind branch ≡ false
+        → next_due kind used branch ≡ Some i
+        → made < limit
+        → ExpandEach kind used limit (suc made) branch i.alternatives r
+        → Expands kind used limit made branch (put_under i branch r)
 
   -- what comes of a branch with each of the alternatives, one after the other
-  pub data ExpandEach {L : Type 0} (kind : Kind L) (used : List (TreeInstance L)) (limit : ℕ) : ℕ → List L → List (List L) → Expanded L (PlainTrees L) → Type 0 where
+  pub data ExpandEach {L : Type 0} (kind : Kind L) (used : List (TreeInstance L)) (limit : ℕ) : ℕ → List L → List (List L) → Expanded L
+      (PlainTrees L) → Type 0 where
     no_more : (made : ℕ) (branch : List L) → ExpandEach kind used limit made branch [] (found none)
-    open_below : (made : ℕ) (branch a : List L) (as' : List (List L)) (b : List L) → Expands kind used limit made (added kind branch a) (open_at b) → ExpandEach kind used limit made branch (a ∷ as') (open_at b)
-    over_below : (made : ℕ) (branch a : List L) (as' : List (List L)) → Expands kind used limit made (added kind branch a) over → ExpandEach kind used limit made branch (a ∷ as') over
-    goes_on : (made : ℕ) (branch a : List L) (as' : List (List L)) (t : PlainTree L) (r : Expanded L (PlainTrees L)) → Expands kind used limit made (added kind branch a) (found t) → ExpandEach kind used limit (made + nodes_in t) branch as' r → ExpandEach kind used limit made branch (a ∷ as') (put_before t r)
+    open_below :
+        (made : ℕ) (branch a : List L) (as' : List (List L)) (b : List L)
+        → Expands kind used limit made (added kind branch a) (open_at b)
+        → ExpandEach kind used limit made branch (a ∷ as') (open_at b)
+    over_below :
+        (made : ℕ) (branch a : List L) (as' : List (List L))
+        → Expands kind used limit made (added kind branch a) over
+        → ExpandEach kind used limit made branch (a ∷ as') over
+    goes_on :
+        (made : ℕ) (branch a : List L) (as' : List (List L)) (t : PlainTree L) (r : Expanded L (PlainTrees L))
+        → Expands kind used limit made (added kind branch a) (found t)
+        → ExpandEach kind used limit (made + nodes_in t) branch as' r
+        → ExpandEach kind used limit made branch (a ∷ as') (put_before t r)
 
 -- the first literal of the branch whose negation the branch holds too
 abbrev pub first_clash : {L : Type 0} → Kind L → List L → Option L
@@ -65,7 +92,10 @@ abbrev pub closing : {L : Type 0} → Kind L → L → TreeInstance L
 closing kind l = record { rule = AtTwo Close 0 1; principals = l ∷ kind.opposite l ∷ []; alternatives = [] }
 
 -- what comes of a start: where it is closed itself, one node on which its first pair closes it
-pub data Expansion {L : Type 0} (kind : Kind L) (used : List (TreeInstance L)) (limit : ℕ) (start : List L) : Expanded L (PlainTree L) → Type 0 where
-  at_once : (l : L) → first_clash kind start ≡ Some l → 0 < limit → Expansion kind used limit start (found (node (closing kind l) start none))
+pub data Expansion {L : Type 0} (kind : Kind L) (used : List (TreeInstance L)) (limit : ℕ) (start : List L) : Expanded L (PlainTree L) →
+    Type 0 where
+  at_once :
+      (l : L) → first_clash kind start ≡ Some l → 0 < limit → Expansion kind used limit start (found (node (closing kind l) start none))
   not_at_once : (l : L) → first_clash kind start ≡ Some l → limit ≡ 0 → Expansion kind used limit start over
-  grows : (r : Expanded L (PlainTree L)) → first_clash kind start ≡ None → Expands kind used limit 0 start r → Expansion kind used limit start r
+  grows :
+      (r : Expanded L (PlainTree L)) → first_clash kind start ≡ None → Expands kind used limit 0 start r → Expansion kind used limit start r

@@ -25,7 +25,8 @@ pub record AddsSmall (atoms : List Lambda) (i : TreeInstance SatLit) : Type 0 wh
 -- where the literals of the start, what the instances add and the rows' predicates are small, the terms of a tree's refutation are
 abbrev pub TreeTermsAreSmall : Type 0
 TreeTermsAreSmall =
-    (rows : List Row) (atoms : List Lambda) (used : List (TreeInstance SatLit)) (limit : ℕ) (start : List SatLit) (t : PlainTree SatLit) (refutation : Refutation)
+    (rows : List Row) (atoms : List Lambda) (used : List (TreeInstance SatLit)) (limit : ℕ) (start : List SatLit) (t : PlainTree SatLit)
+        (refutation : Refutation)
     → AllByRecursion (λ (row : Row). IsSmallTerm row.predicate) rows → Each (AddsSmall atoms) used → Each (HasSmallAtom atoms) start
     → Expansion numbers used limit start (found t) → IsOfTree atoms rows t refutation
     → AreTermsSmall refutation

@@ -44,8 +44,10 @@ pub record IsUsable (b : Content) (atoms : List ℕ) (rows : List Row) (t : Tabl
 -- The answer is what comes of the expansion: the refutation of its tree with how many nodes it has, its first open branch, or that there
 -- would be more nodes than these.
 abbrev pub IsStripped : List Lambda → List Row → List (TreeInstance SatLit) → ℕ → List SatLit → Stripped → Type 0
-IsStripped atoms rows used limit start (Whole refutation n) = (t : PlainTree SatLit) × Expansion numbers used limit start (found t) × (n ≡ nodes_in t) × IsOfTree atoms rows t refutation
-IsStripped atoms rows used limit start (Open branch) = (b : List SatLit) × Expansion numbers used limit start (open_at b) × (branch ≡ literals_of atoms b)
+IsStripped atoms rows used limit start (Whole refutation n) =
+    (t : PlainTree SatLit) × Expansion numbers used limit start (found t) × (n ≡ nodes_in t) × IsOfTree atoms rows t refutation
+IsStripped atoms rows used limit start (Open branch) =
+    (b : List SatLit) × Expansion numbers used limit start (open_at b) × (branch ≡ literals_of atoms b)
 IsStripped atoms rows used limit start (Over n) = Expansion numbers used limit start over × (n ≡ limit)
 
 -- what holds of the refutation, where the answer is a tree

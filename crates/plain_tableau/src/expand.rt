@@ -2,7 +2,6 @@
 ghost use Rattle.std.specs.Prelude.{◌≡◌, ◌<◌, ◌≤◌, ◌++◌, [], ◌∷◌, length, reverse, slice_get, Some, None, IfOk, All};
 ghost use Rattle.sat_base.specs.declared.literal.SatLit.{SatLit};
 ghost use Rattle.sat_base.specs.Literal.{IsOver};
-ghost use Rattle.tableau_calculus.specs.Witnesses.{with_rows};
 ghost use Rattle.tableau_calculus.specs.Accepted.{IsAccepted};
 ghost use Rattle.tableau_calculus.specs.Closed.{Closes, tableau_of};
 ghost use Rattle.search_spec.specs.Numbered.{numbers};
@@ -218,7 +217,7 @@ pub fn strip(
     requires used { All (IsUsable bank.now lits.now (rows_of bank.now.terms witnesses.now) steps.now) used.now }
     ensures exactly { IfOk result (IsStripped (atoms_at bank.now.terms lits.now) (rows_of bank.now.terms witnesses.now) (the_used bank.now.terms lits.now steps.now used.now) nodes (start_branch steps.now)) }
     ensures accepted { IfOk result (OfTree (IsAccepted (content_scope bank.now) (unit_literals (atoms_at bank.now.terms lits.now) steps.now.0))) }
-    ensures closed { IfOk result (OfTree (λ refutation. Closes (with_rows (content_scope bank.now) refutation.witnesses) refutation.witnesses (tableau_of refutation) (unit_literals (atoms_at bank.now.terms lits.now) steps.now.0))) }
+    ensures closed { IfOk result (OfTree (λ refutation. Closes (content_scope bank.now) refutation.witnesses (tableau_of refutation) (unit_literals (atoms_at bank.now.terms lits.now) steps.now.0))) }
     ensures no_cut { IfOk result (OfTree (λ refutation. HasNoCut refutation.lines)) }
     ensures within { IfOk result (IsWithinLimit nodes) }
     ensures reached { IfOk result (OfTree (λ refutation. IsEachReached refutation.lines)) }

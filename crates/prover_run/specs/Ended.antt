@@ -27,7 +27,8 @@ setting_for p m = record { scope = scope_of p.declared; mode = m }
 
 -- The refutation is accepted for the start and small enough for a text. Each of its lines is reached and comes from the clauses. These are
 -- refuted within so many conflicts, and from the log of what was learned the refutation is rebuilt.
-pub record RefutesFrom (scope : Scope) (start : List Literal) (clauses : List Clause) (conflicts : ℕ) (refutation : Refutation) : Type 0 where
+pub record RefutesFrom (scope : Scope) (start : List Literal) (clauses : List Clause) (conflicts : ℕ) (refutation : Refutation) : Type 0
+    where
   pub accepted : IsAccepted scope start refutation
   pub reached : IsEachReached refutation.lines
   pub small : IsSmall refutation
@@ -63,13 +64,15 @@ pub record IsSpent (setting : Setting) (literals : List Literal) (conflicts : �
 
 -- the mode has enough conflicts for the clauses of each state of the run
 abbrev pub HasEnoughConflicts : Setting → List Literal → Type 0
-HasEnoughConflicts setting literals = (n : ℕ) (state : State) → state_after setting literals n ≡ Some state → AreEnough setting.mode.conflicts state.clauses
+HasEnoughConflicts setting literals =
+    (n : ℕ) (state : State) → state_after setting literals n ≡ Some state → AreEnough setting.mode.conflicts state.clauses
 
 -- How the run over the problem by the mode ends, of which a tree of at most so many nodes may be asked for. A tree begins with the literals
 -- of the start that are shallow enough.
 abbrev pub EndsAs : PlainProblem → Mode → Option ℕ → Ended → Type 0
 EndsAs p m nodes (Proved n refutation tree) =
-    (refuted : IsRefuted p m n refutation) × IsTreeAsked (scope_of p.declared) (start p) (filter is_shallow_literal (start p)) refuted.shortly.input nodes tree
+    (refuted : IsRefuted p m n refutation)
+    × IsTreeAsked (scope_of p.declared) (start p) (filter is_shallow_literal (start p)) refuted.shortly.input nodes tree
 EndsAs p m nodes (GaveUp n) = IsExhausted (setting_for p m) (start p) n
 EndsAs p m nodes (CommandLimit n) = IsStopped (setting_for p m) (start p) n
 EndsAs p m nodes (ConflictLimit conflicts) = IsSpent (setting_for p m) (start p) conflicts

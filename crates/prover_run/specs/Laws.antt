@@ -19,11 +19,16 @@ EnoughIsNeverSpent = (clauses : List Clause) (conflicts : ℕ) → AreEnough con
 
 -- so no run is spent whose mode has conflicts for all clauses of each of its states
 abbrev pub RunWithEnoughIsNeverSpent : Type 0
-RunWithEnoughIsNeverSpent = (setting : Setting) (literals : List Literal) (conflicts : ℕ) → HasEnoughConflicts setting literals → IsSpent setting literals conflicts → ⊥
+RunWithEnoughIsNeverSpent =
+    (setting : Setting) (literals : List Literal) (conflicts : ℕ)
+    → HasEnoughConflicts setting literals
+    → IsSpent setting literals conflicts
+    → ⊥
 
 -- the empty clause isn't learned
 abbrev pub LearnedIsNotEmpty : Type 0
-LearnedIsNotEmpty = (clauses : List Clause) (learning : HasLearned clauses) (clause : List SatLit) → Contains learning.learned clause → clause ≢ []
+LearnedIsNotEmpty =
+    (clauses : List Clause) (learning : HasLearned clauses) (clause : List SatLit) → Contains learning.learned clause → clause ≢ []
 
 -- what is refuted without a conflict, unit propagation over the clauses alone refutes
 abbrev pub PropagatesWithoutConflict : Type 0
@@ -31,24 +36,36 @@ PropagatesWithoutConflict = (clauses : List Clause) → AreRefutedWithin 0 claus
 
 -- so it is with the clauses of a proved run whose mode has no conflicts
 abbrev pub RunPropagatesWithoutConflict : Type 0
-RunPropagatesWithoutConflict = (p : PlainProblem) (m : Mode) (n : ℕ) (refutation : Refutation) (refuted : IsRefuted p m n refutation) → m.conflicts ≡ 0 → PropagatesToFalse refuted.proved.state.clauses
+RunPropagatesWithoutConflict =
+    (p : PlainProblem) (m : Mode) (n : ℕ) (refutation : Refutation) (refuted : IsRefuted p m n refutation)
+    → m.conflicts ≡ 0
+    → PropagatesToFalse refuted.proved.state.clauses
 
 -- what was learned where the conflicts are spent doesn't refute the clauses, nor does a part of it
 abbrev pub SpentIsNotRefuted : Type 0
 SpentIsNotRefuted =
-    (clauses : List Clause) (conflicts budget : ℕ) (spent : AreSpent clauses conflicts) (refuted : AreRefutedWithin budget clauses) → IsLearnedAmong refuted.learning spent.learning → ⊥
+    (clauses : List Clause) (conflicts budget : ℕ) (spent : AreSpent clauses conflicts) (refuted : AreRefutedWithin budget clauses)
+    → IsLearnedAmong refuted.learning spent.learning
+    → ⊥
 
 -- for one problem and one mode, a run whose conflicts are spent ends no later than one that is proved
 abbrev pub SpentEndsNoLater : Type 0
 SpentEndsNoLater =
-    (p : PlainProblem) (m : Mode) (n conflicts : ℕ) (refutation : Refutation) (spent : IsSpent (setting_for p m) (start p) conflicts) (refuted : IsRefuted p m n refutation) → spent.commands ≤ n
+    (p : PlainProblem) (m : Mode) (n conflicts : ℕ) (refutation : Refutation) (spent : IsSpent (setting_for p m) (start p) conflicts)
+        (refuted : IsRefuted p m n refutation)
+    → spent.commands ≤ n
 
 -- and earlier where all that the proved run learned, it learned too
 abbrev pub SpentEndsEarlier : Type 0
 SpentEndsEarlier =
-    (p : PlainProblem) (m : Mode) (n conflicts : ℕ) (refutation : Refutation) (spent : IsSpent (setting_for p m) (start p) conflicts) (refuted : IsRefuted p m n refutation)
+    (p : PlainProblem) (m : Mode) (n conflicts : ℕ) (refutation : Refutation) (spent : IsSpent (setting_for p m) (start p) conflicts)
+        (refuted : IsRefuted p m n refutation)
     → IsLearnedAmong refuted.within.learning spent.spent.learning → spent.commands < n
 
 -- a log uses one list of instances
 abbrev pub OneUsedList : Type 0
-OneUsedList = (input : Input) (instances others : List Instance) → AreUsedInstances input instances → AreUsedInstances input others → instances ≡ others
+OneUsedList =
+    (input : Input) (instances others : List Instance)
+    → AreUsedInstances input instances
+    → AreUsedInstances input others
+    → instances ≡ others

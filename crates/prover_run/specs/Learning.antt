@@ -47,7 +47,12 @@ pub record AreSpent (clauses : List Clause) (conflicts : ℕ) : Type 0 where
 -- Unit propagation over the clauses, from no literals, reaches a literal (Davis and Putnam 1960): some clause has it, and the negations of
 -- the clause's other literals are reached.
 pub data IsPropagated (clauses : List Clause) : Literal → Type 0 where
-  by_unit : (clause : Clause) (l : Literal) → Contains clauses clause → Contains clause l → ((m : Literal) → Contains clause m → m ≢ l → IsPropagated clauses (opposite m)) → IsPropagated clauses l
+  by_unit :
+      (clause : Clause) (l : Literal)
+      → Contains clauses clause
+      → Contains clause l
+      → ((m : Literal) → Contains clause m → m ≢ l → IsPropagated clauses (opposite m))
+      → IsPropagated clauses l
 
 -- unit propagation over the clauses reaches a false clause: the negations of all its literals
 pub record PropagatesToFalse (clauses : List Clause) : Type 0 where

@@ -1,6 +1,6 @@
 -- Trees of tokens that aren't too deep have types that nest no deeper.
 use Rattle.std.proofs.Common.{◌≡◌, ◌≤◌, ◌+◌, ℕ, suc, max, Option, List, length, arith}
-use Rattle.thf_grammar.specs.Trees.{TypeTree, form, indiv, named, arrow, VarTree, FormulaTree, BodyTree, base, typing, StatementTree, annotated, include}
+use Rattle.thf_grammar.specs.Trees.{TypeTree, VarTree, FormulaTree, BodyTree, StatementTree}
 use Rattle.thf_grammar.specs.Trees as tree
 use Rattle.thf_grammar.specs.declared.connective.Conn.{Conn}
 use Rattle.thf_grammar.specs.declared.connective.Binder.{Binder}

@@ -62,10 +62,18 @@ IsShallowStatement limit (include at file only) = Unit {0}
 
 -- whatever files state a problem, its types nest at most 1,024 deep
 abbrev pub ReadingsAreModest : Type 0
-ReadingsAreModest = (texts : List (List ℕ)) (name : List ℕ) (names : List (List ℕ)) (ss : List PlacedTree) (p : PlainProblem) → IsGathering texts name names (done ss) → problem_of ss ≡ Ok p → IsModestProblem 1024 p
+ReadingsAreModest =
+    (texts : List (List ℕ)) (name : List ℕ) (names : List (List ℕ)) (ss : List PlacedTree) (p : PlainProblem)
+    → IsGathering texts name names (done ss)
+    → problem_of ss ≡ Ok p
+    → IsModestProblem 1024 p
 
 -- whatever files state a problem: each state of the run over it, with its definitions unfolded, has terms that are small enough for a text
 abbrev pub RunsOfFilesStaySmall : Type 0
 RunsOfFilesStaySmall =
-    (texts : List (List ℕ)) (name : List ℕ) (names : List (List ℕ)) (ss : List PlacedTree) (p : PlainProblem) → IsGathering texts name names (done ss) → problem_of ss ≡ Ok p
-    → (mode : Mode) (n : ℕ) (s : State) → state_after (record { scope = scope_of p.declared; mode = mode }) (start (unfolded_problem p)) n ≡ Some s → StateHasSmallTerms s
+    (texts : List (List ℕ)) (name : List ℕ) (names : List (List ℕ)) (ss : List PlacedTree) (p : PlainProblem)
+    → IsGathering texts name names (done ss)
+    → problem_of ss ≡ Ok p
+    → (mode : Mode) (n : ℕ) (s : State)
+        → state_after (record { scope = scope_of p.declared; mode = mode }) (start (unfolded_problem p)) n ≡ Some s
+        → StateHasSmallTerms s

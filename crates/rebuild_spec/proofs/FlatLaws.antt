@@ -8,7 +8,7 @@ use Rattle.stt_core.proofs.ListLaws.{map-append}
 use Rattle.tableau_calculus.specs.Literals.{Literal, plus, opposite, IsLiteral, IsBranch}
 use Rattle.tableau_calculus.specs.Witnesses.{Row}
 use Rattle.tableau_calculus.specs.Rules.{cut_rule}
-use Rattle.tableau_calculus.specs.Accepted.{Within, ClosesBy, IsRightLine, AreRightLines}
+use Rattle.tableau_calculus.specs.Accepted.{Within, ClosesBy, IsRightLine, AreRightAfter}
 use Rattle.tableau_calculus.specs.declared.refutation.Child.TheVariants as child
 use Rattle.tableau_calculus.proofs.ListLaws.{contains-first, contains-later, within-each}
 use Rattle.tableau_calculus.proofs.TypedLaws.{branch-each}
@@ -95,13 +95,13 @@ module _ (scope : Scope) (rows : List Row) (atoms : List Lambda) (formulas : (t 
           );
         }
 
-    lines_right : (front back : List Tree) → lines ≡ front ++ back → AreRightLines scope rows (map (line_of atoms lines) front) (map (line_of atoms lines) back)
+    lines_right : (front back : List Tree) → lines ≡ front ++ back → AreRightAfter scope rows (map (line_of atoms lines) front) (map (line_of atoms lines) back)
     lines_right front [] e = tt
     lines_right front (t ∷ back) e =
         let at : slice_get lines (length front) ≡ Some t = ap (λ k. slice_get k (length front)) e ∙ get-middle front back t in (
           line_right front (t ∷ back) t e (ordered.each (length front) t at) (ordered.earlier (length front) t at),
-          subst (λ k. AreRightLines scope rows k (map (line_of atoms lines) back)) (map-append (line_of atoms lines) front (t ∷ [])) (lines_right (front ++ t ∷ []) back (e ∙ sym (append_assoc front (t ∷ []) back))),
+          subst (λ k. AreRightAfter scope rows k (map (line_of atoms lines) back)) (map-append (line_of atoms lines) front (t ∷ [])) (lines_right (front ++ t ∷ []) back (e ∙ sym (append_assoc front (t ∷ []) back))),
         )
 
-    pub all_right : AreRightLines scope rows [] (map (line_of atoms lines) lines)
+    pub all_right : AreRightAfter scope rows [] (map (line_of atoms lines) lines)
     all_right = lines_right [] lines refl

@@ -19,7 +19,7 @@ use Rattle.rebuild_spec.proofs.StandsLaws.{IsMade, one_made, lines_made}
 use Rattle.rebuild_spec.proofs.LastLaws.{walk_ordered, walk_ends}
 
 module _ (scope : Scope) (begin : List Literal) (input : Input) (given : IsGiven scope begin input) (p : Place) (t : Tree) (stands : Stands input p [] (line t)) where
-  pub rebuilt_right : AreRightLines (with_rows scope input.rows) input.rows [] (lines_from input.atoms t)
+  pub rebuilt_right : AreRightLines scope input.rows (lines_from input.atoms t)
   rebuilt_right =
       let is = lines_made scope begin input given p [] t stands in
       all_right (with_rows scope input.rows) input.rows input.atoms given.atoms (IsMade scope begin input given) (λ u h. h.alone) (walked [] t) (walk_ordered (IsMade scope begin input given) (one_made scope begin input given) t is)

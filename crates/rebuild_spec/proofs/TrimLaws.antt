@@ -13,7 +13,7 @@ use Rattle.tableau_calculus.specs.Literals.{Literal, IsLiteral, IsBranch}
 use Rattle.tableau_calculus.specs.Witnesses.{Row, with_rows, IsTableAfter, IsTable}
 use Rattle.tableau_calculus.specs.RuleUses.{principals_of}
 use Rattle.tableau_calculus.specs.Rules.{PlainRule, Rule, AreAt, alone_rule, close_rule, all_pos_rule, all_neg_rule, mat_rule, dec_rule, con_rule, cho_rule, des_rule, cut_rule}
-use Rattle.tableau_calculus.specs.Accepted.{IsTypedUse, IsRightLine, AreRightLines}
+use Rattle.tableau_calculus.specs.Accepted.{IsTypedUse, IsRightLine, AreRightAfter}
 use Rattle.tableau_calculus.specs.declared.rule_use.RuleUse.TheVariants.{AtOne, AtTwo, AllPos, WithPredicate, Cut}
 use Rattle.tableau_calculus.specs.declared.refutation.Line.{Line}
 use Rattle.tableau_calculus.proofs.ListLaws.{contains-first}
@@ -169,7 +169,7 @@ module _ (scope : Scope) (rows : List Row) (n : ℕ) where
       children = h.children;
     }
 
-    pub lines_kept : (earlier lines : List Line) → rows_for_lines rows lines ≤ n → AreRightLines (with_rows scope rows) rows earlier lines → AreRightLines (with_rows scope (take n rows)) (take n rows) earlier lines
+    pub lines_kept : (earlier lines : List Line) → rows_for_lines rows lines ≤ n → AreRightAfter (with_rows scope rows) rows earlier lines → AreRightAfter (with_rows scope (take n rows)) (take n rows) earlier lines
     lines_kept earlier [] b h = tt
     lines_kept earlier (l ∷ lines) b h =
         let first : rows_for_all l.branch ≤ n = omega (arith, b) in

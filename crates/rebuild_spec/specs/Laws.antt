@@ -2,7 +2,6 @@
 use Rattle.std.specs.Prelude.{◌≡◌, ◌+◌, ◌++◌, ℕ, List, [], map, length, Some, slice_get, Contains}
 use Rattle.stt_core.specs.Typing.{Scope}
 use Rattle.tableau_calculus.specs.Literals.{Literal}
-use Rattle.tableau_calculus.specs.Witnesses.{with_rows}
 use Rattle.tableau_calculus.specs.Accepted.{IsAccepted}
 use Rattle.tableau_calculus.specs.Closed.{Closes, tableau_of}
 use Rattle.tableau_calculus.specs.declared.refutation.Line.{Line}
@@ -24,16 +23,29 @@ use Rattle.rebuild_spec.specs.Trimmed.{IsEachReached, IsFromSearch}
 
 -- the refutation is accepted
 abbrev pub RebuiltIsAccepted : Type 0
-RebuiltIsAccepted = (scope : Scope) (start : List Literal) (input : Input) (refutation : Refutation) → IsGiven scope start input → IsRebuilt input refutation → IsAccepted scope start refutation
+RebuiltIsAccepted =
+    (scope : Scope) (start : List Literal) (input : Input) (refutation : Refutation)
+    → IsGiven scope start input
+    → IsRebuilt input refutation
+    → IsAccepted scope start refutation
 
 -- the tableau of the refutation's last line closes the start
 abbrev pub RebuiltIsClosed : Type 0
 RebuiltIsClosed =
-    (scope : Scope) (start : List Literal) (input : Input) (refutation : Refutation) → IsGiven scope start input → IsRebuilt input refutation → Closes (with_rows scope refutation.witnesses) refutation.witnesses (tableau_of refutation) start
+    (scope : Scope) (start : List Literal) (input : Input) (refutation : Refutation)
+    → IsGiven scope start input
+    → IsRebuilt input refutation
+    → Closes scope refutation.witnesses (tableau_of refutation) start
 
 -- from a right log whose last result is the empty clause a refutation is rebuilt
 abbrev pub SomeIsRebuilt : Type 0
-SomeIsRebuilt = (input : Input) (n : ℕ) (entry : LogEntry) → IsLogOver (map clause_in input.clauses) input.log → length input.log ≡ n + 1 → slice_get input.log n ≡ Some entry → entry.result ≡ [] → (refutation : Refutation) × IsRebuilt input refutation
+SomeIsRebuilt =
+    (input : Input) (n : ℕ) (entry : LogEntry)
+    → IsLogOver (map clause_in input.clauses) input.log
+    → length input.log ≡ n + 1
+    → slice_get input.log n ≡ Some entry
+    → entry.result ≡ []
+    → (refutation : Refutation) × IsRebuilt input refutation
 
 -- one refutation is rebuilt
 abbrev pub OneIsRebuilt : Type 0
@@ -41,16 +53,29 @@ OneIsRebuilt = (input : Input) (r q : Refutation) → IsRebuilt input r → IsRe
 
 -- each line is reached from the last one
 abbrev pub RebuiltIsReached : Type 0
-RebuiltIsReached = (scope : Scope) (start : List Literal) (input : Input) (refutation : Refutation) → IsGiven scope start input → IsRebuilt input refutation → IsEachReached refutation.lines
+RebuiltIsReached =
+    (scope : Scope) (start : List Literal) (input : Input) (refutation : Refutation)
+    → IsGiven scope start input
+    → IsRebuilt input refutation
+    → IsEachReached refutation.lines
 
 -- each cut is on an atom of the clauses, and each other line closes two start literals or is that of a clause
 abbrev pub RebuiltIsFromSearch : Type 0
 RebuiltIsFromSearch =
-    (scope : Scope) (start : List Literal) (input : Input) (refutation : Refutation) → IsGiven scope start input → IsRebuilt input refutation → (l : Line) → Contains refutation.lines l → IsFromSearch start input l
+    (scope : Scope) (start : List Literal) (input : Input) (refutation : Refutation)
+    → IsGiven scope start input
+    → IsRebuilt input refutation
+    → (l : Line)
+    → Contains refutation.lines l
+    → IsFromSearch start input l
 
 -- there is at most one line for each step of the results and one for each clause that the last result's chain reaches
 abbrev pub RebuiltIsFew : Type 0
-RebuiltIsFew = (scope : Scope) (start : List Literal) (input : Input) (refutation : Refutation) → IsGiven scope start input → IsRebuilt input refutation → AreFew input.log refutation.lines
+RebuiltIsFew =
+    (scope : Scope) (start : List Literal) (input : Input) (refutation : Refutation)
+    → IsGiven scope start input
+    → IsRebuilt input refutation
+    → AreFew input.log refutation.lines
 
 -- The branch of the line of a clause is the principals and then the negations of the literals that were picked, without repeats, whichever
 -- of its choices gives the clause.
@@ -61,4 +86,8 @@ BranchesArePicked =
 
 -- each clause of an instance that the last result's chain reaches has its line
 abbrev pub RebuiltHasUsed : Type 0
-RebuiltHasUsed = (scope : Scope) (start : List Literal) (input : Input) (refutation : Refutation) → IsGiven scope start input → IsRebuilt input refutation → HasUsedLines input refutation.lines
+RebuiltHasUsed =
+    (scope : Scope) (start : List Literal) (input : Input) (refutation : Refutation)
+    → IsGiven scope start input
+    → IsRebuilt input refutation
+    → HasUsedLines input refutation.lines

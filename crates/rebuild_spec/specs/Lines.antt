@@ -27,7 +27,10 @@ line_number_in lines t = position_or_len (same_line t) lines
 abbrev pub line_of : List Lambda → List Tree → Tree → Line
 line_of atoms lines (leaf p ls rule children) = record { branch = literals_of atoms ls; rule = rule; children = children }
 line_of atoms lines (cut p v t u) =
-    record { branch = literals_of atoms (branch (cut p v t u)); rule = Cut (literal_at atoms (positive v)); children = child.Line (line_number_in lines t) ∷ child.Line (line_number_in lines u) ∷ [] }
+    record {
+      branch = literals_of atoms (branch (cut p v t u));
+      rule = Cut (literal_at atoms (positive v));
+      children = child.Line (line_number_in lines t) ∷ child.Line (line_number_in lines u) ∷ [] }
 
 -- the lines of the walk from the last line
 abbrev pub lines_from : List Lambda → Tree → List Line

@@ -62,7 +62,25 @@ premise_place (Result n) = at_result n
 -- At a place there is this clause, and this stands for it.
 pub data Stands (input : Input) : Place → List SatLit → Standing → Type 0 where
   of_start : (n : ℕ) (l : SatLit) → slice_get input.clauses n ≡ Some (start_unit l) → Stands input (at_clause n) (l ∷ []) (start n l)
-  of_instance : (n : ℕ) (c : List SatLit) (i : Instance) → slice_get input.clauses n ≡ Some (clause_by c i) → Stands input (at_clause n) c (line (instance_line n c i))
-  of_first : (n : ℕ) (entry : LogEntry) (c : List SatLit) (s : Standing) → slice_get input.log n ≡ Some entry → Stands input (premise_place entry.chain.first) c s → Stands input (at_step n zero) c s
-  of_next : (n k : ℕ) (entry : LogEntry) (step : ChainStep) (a b c : List SatLit) (s t : Standing) → slice_get input.log n ≡ Some entry → slice_get entry.chain.steps k ≡ Some step → Stands input (at_step n k) a s → Stands input (premise_place step.premise) b t → resolved step.var a b ≡ Some c → Stands input (at_step n (suc k)) c (standing_after_step (at_step n (suc k)) step.var a s b t)
-  of_result : (n : ℕ) (entry : LogEntry) (c : List SatLit) (s : Standing) → slice_get input.log n ≡ Some entry → Stands input (at_step n (length entry.chain.steps)) c s → Stands input (at_result n) c s
+  of_instance :
+      (n : ℕ) (c : List SatLit) (i : Instance)
+      → slice_get input.clauses n ≡ Some (clause_by c i)
+      → Stands input (at_clause n) c (line (instance_line n c i))
+  of_first :
+      (n : ℕ) (entry : LogEntry) (c : List SatLit) (s : Standing)
+      → slice_get input.log n ≡ Some entry
+      → Stands input (premise_place entry.chain.first) c s
+      → Stands input (at_step n zero) c s
+  of_next :
+      (n k : ℕ) (entry : LogEntry) (step : ChainStep) (a b c : List SatLit) (s t : Standing)
+      → slice_get input.log n ≡ Some entry
+      → slice_get entry.chain.steps k ≡ Some step
+      → Stands input (at_step n k) a s
+      → Stands input (premise_place step.premise) b t
+      → resolved step.var a b ≡ Some c
+      → Stands input (at_step n (suc k)) c (standing_after_step (at_step n (suc k)) step.var a s b t)
+  of_result :
+      (n : ℕ) (entry : LogEntry) (c : List SatLit) (s : Standing)
+      → slice_get input.log n ≡ Some entry
+      → Stands input (at_step n (length entry.chain.steps)) c s
+      → Stands input (at_result n) c s

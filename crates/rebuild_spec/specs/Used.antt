@@ -12,8 +12,14 @@ use Rattle.rebuild_spec.specs.Stands.{premise_place}
 -- A clause or a result is used: it is the last result, or a premise of the chain of one that is used.
 pub data IsUsed (log : List LogEntry) : Place → Type 0 where
   last_result : (n : ℕ) → length log ≡ n + 1 → IsUsed log (at_result n)
-  first_of : (n : ℕ) (entry : LogEntry) → slice_get log n ≡ Some entry → IsUsed log (at_result n) → IsUsed log (premise_place entry.chain.first)
-  step_of : (n : ℕ) (entry : LogEntry) (step : ChainStep) → slice_get log n ≡ Some entry → IsUsed log (at_result n) → Contains entry.chain.steps step → IsUsed log (premise_place step.premise)
+  first_of :
+      (n : ℕ) (entry : LogEntry) → slice_get log n ≡ Some entry → IsUsed log (at_result n) → IsUsed log (premise_place entry.chain.first)
+  step_of :
+      (n : ℕ) (entry : LogEntry) (step : ChainStep)
+      → slice_get log n ≡ Some entry
+      → IsUsed log (at_result n)
+      → Contains entry.chain.steps step
+      → IsUsed log (premise_place step.premise)
 
 -- how many steps the chains of these results of a log have
 abbrev pub steps_in : Option LogEntry → ℕ
@@ -47,4 +53,7 @@ pub record HasLineOf (input : Input) (lines : List Line) (clause : List SatLit) 
 -- each clause of an instance that is used has its line
 abbrev pub HasUsedLines : Input → List Line → Type 0
 HasUsedLines input lines =
-    (n : ℕ) (clause : List SatLit) (i : Instance) → IsUsed input.log (at_clause n) → slice_get input.clauses n ≡ Some (clause_by clause i) → HasLineOf input lines clause
+    (n : ℕ) (clause : List SatLit) (i : Instance)
+    → IsUsed input.log (at_clause n)
+    → slice_get input.clauses n ≡ Some (clause_by clause i)
+    → HasLineOf input lines clause

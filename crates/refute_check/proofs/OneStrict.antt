@@ -7,7 +7,7 @@ use Rattle.stt_core.specs.PlainProblem.{PlainProblem}
 use Rattle.tableau_calculus.specs.Literals.{Literal}
 use Rattle.tableau_calculus.specs.Witnesses.{Row, with_rows, IsTable}
 use Rattle.tableau_calculus.specs.Start.{start}
-use Rattle.tableau_calculus.specs.Accepted.{IsTypedLine, AreRightLines, RowFails, LineFails, FirstFailure}
+use Rattle.tableau_calculus.specs.Accepted.{IsTypedLine, AreRightAfter, RowFails, LineFails, FirstFailure}
 use Rattle.tableau_calculus.specs.Accepted as plain
 use Rattle.tableau_calculus.specs.CutFree.{is_cut_use, HasNoCut}
 use Rattle.tableau_calculus.specs.declared.refutation.Line.{Line}
@@ -37,7 +37,7 @@ module _ (scope : Scope) (begin : List Literal) (r : Refutation) where
       omega (arith, one.0, ap length e, length-append front (row ∷ back))
 
   -- a line that fails is none of right lines
-  no_line_fails : IsTable scope r.witnesses → (lines front back : List Line) (line : Line) (why : Why) → lines ≡ front ++ line ∷ back → AreRightLines wide r.witnesses [] lines → AreRightLines wide r.witnesses [] front → LineFails wide r.witnesses front line why → ⊥
+  no_line_fails : IsTable scope r.witnesses → (lines front back : List Line) (line : Line) (why : Why) → lines ≡ front ++ line ∷ back → AreRightAfter wide r.witnesses [] lines → AreRightAfter wide r.witnesses [] front → LineFails wide r.witnesses front line why → ⊥
   no_line_fails table lines front back line why e right before fails =
       let ends = last_of lines (subst (λ (ls : List Line). 0 < length ls) (sym e) (omega (arith, length-append front (line ∷ back)))) in
       let whole : Refutation = record { witnesses = r.witnesses; lines = lines } in
@@ -56,7 +56,7 @@ module _ (scope : Scope) (begin : List Literal) (r : Refutation) where
     line : Line
     table : IsTable scope r.witnesses
     is : r.lines ≡ front ++ line ∷ back
-    right : AreRightLines wide r.witnesses [] front
+    right : AreRightAfter wide r.witnesses [] front
     none : HasNoCut front
     typed : IsTypedLine wide line
     cut : is_cut_use line.rule ≡ true

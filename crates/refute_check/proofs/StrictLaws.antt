@@ -9,7 +9,7 @@ use Rattle.stt_core.proofs.ListLaws.{take_got}
 use Rattle.tableau_calculus.specs.Literals.{Literal}
 use Rattle.tableau_calculus.specs.Witnesses.{Row, with_rows, IsTable}
 use Rattle.tableau_calculus.specs.Start.{start}
-use Rattle.tableau_calculus.specs.Accepted.{IsRightLine, AreRightLines, LineFails, IsAccepted, FirstFailure}
+use Rattle.tableau_calculus.specs.Accepted.{IsRightLine, AreRightAfter, LineFails, IsAccepted, FirstFailure}
 use Rattle.tableau_calculus.specs.Accepted as plain
 use Rattle.tableau_calculus.specs.CutFree.{is_cut_use, HasNoCut}
 use Rattle.tableau_calculus.specs.Internal.Answers.{LineAnswer}
@@ -24,7 +24,7 @@ use Rattle.refute_print.specs.Trees.{RefutationTree}
 use Rattle.refute_print.specs.Named.{names_of}
 use Rattle.refute_check.specs.Numbered.{numbered_refutation}
 use Rattle.refute_check.specs.Refusal.{FailsAt}
-use Rattle.refute_check.specs.Acceptance.{taken_texts, NamesDefinitions, refuted_problem, IsAcceptedFor, DifferFirst, TextFailsAt}
+use Rattle.refute_check.specs.Acceptance.{taken_texts, NamesDefinitions, refuted_problem, DifferFirst}
 use Rattle.refute_check.specs.Acceptance as text
 use Rattle.refute_check.specs.Strict.{LineFailsStrictly, FirstStrictFailure, at_row, at_line, at_last, no_line, IsStrictlyAcceptedFor, FailsStrictlyAt, TextFailsStrictlyAt, at_definition, behind_definitions}
 use Rattle.refute_check.specs.Internal.Strictly.{cut_or, with_cut, IsAcceptedBy, FirstFailureBy, FailsAtBy, IsTextAcceptedBy, TextFailsBy}
@@ -116,14 +116,14 @@ module _ (scope : Scope) (begin : List Literal) (r : Refutation) where
   row_by true _ _ (plain.at_last front line table e right outside) below = absurd (omega (arith, below))
   row_by true _ _ (plain.no_line table e) below = absurd (omega (arith, below))
 
-  strict_refused : (n i : ℕ) (line : Line) (why : Why) → n ≡ length r.witnesses → slice_get r.lines i ≡ Some line → IsTable scope r.witnesses → AreRightLines wide r.witnesses [] (take i r.lines) → HasNoCut (take i r.lines) → LineFailsStrictly wide r.witnesses (take i r.lines) line why → FirstStrictFailure scope begin r (n + i) why
+  strict_refused : (n i : ℕ) (line : Line) (why : Why) → n ≡ length r.witnesses → slice_get r.lines i ≡ Some line → IsTable scope r.witnesses → AreRightAfter wide r.witnesses [] (take i r.lines) → HasNoCut (take i r.lines) → LineFailsStrictly wide r.witnesses (take i r.lines) line why → FirstStrictFailure scope begin r (n + i) why
   strict_refused n i line why count at table h none fails =
       let lines = r.lines in
       subst (λ k. FirstStrictFailure scope begin r k why) (ap₂ (λ x y. x + y) (sym count) (length-front lines i line at))
       (at_line (take i lines) (drop (i + 1) lines) line why table (split_at lines i line at) h none fails)
 
   -- a line that fails
-  pub line_by : (strict : Bool) (n i : ℕ) (line : Line) (why : Why) → n ≡ length r.witnesses → slice_get r.lines i ≡ Some line → IsTable scope r.witnesses → AreRightLines wide r.witnesses [] (take i r.lines) → (strict ≡ true → HasNoCut (take i r.lines)) → AnswerBy wide r.witnesses (take i r.lines) line strict (Some why) → FirstFailureBy strict scope begin r (n + i) why
+  pub line_by : (strict : Bool) (n i : ℕ) (line : Line) (why : Why) → n ≡ length r.witnesses → slice_get r.lines i ≡ Some line → IsTable scope r.witnesses → AreRightAfter wide r.witnesses [] (take i r.lines) → (strict ≡ true → HasNoCut (take i r.lines)) → AnswerBy wide r.witnesses (take i r.lines) line strict (Some why) → FirstFailureBy strict scope begin r (n + i) why
   line_by false n i line why count at table h none fails = line_refused scope begin r n i line why count at table h fails
   line_by true n i line why count at table h none fails = strict_refused n i line why count at table h (none refl) fails
 

@@ -29,7 +29,9 @@ refuted_problem p (w ∷ names) = unfolded_problem p
 -- The text is accepted for the problem.
 pub record IsAcceptedFor (p : PlainProblem) (t : RefutationTree) : Type 0 where
   pub definitions : NamesDefinitions p t.names
-  pub refutation : IsAccepted (scope_of p.declared) (start (refuted_problem p t.names)) (numbered_refutation (names_of p.declared.bases p.declared.consts) t)
+  pub refutation :
+      IsAccepted (scope_of p.declared) (start (refuted_problem p t.names))
+          (numbered_refutation (names_of p.declared.bases p.declared.consts) t)
 
 -- The place is the first at which two lists differ: the names there are others, or only one list has a name there.
 pub record DifferFirst (names taken : List (List ℕ)) (place : ℕ) : Type 0 where
@@ -39,5 +41,15 @@ pub record DifferFirst (names taken : List (List ℕ)) (place : ℕ) : Type 0 wh
 -- The first failure of a text, of which the first row, or else the first line, or else the end line, is line `first`. The lines of the
 -- definitions stand before that one, and are checked before all others. Where they are too few, the failure is at line `first`.
 pub data TextFailsAt (p : PlainProblem) (t : RefutationTree) (first : ℕ) : ℕ → Why → Type 0 where
-  at_definition : (place line : ℕ) → 0 < length t.names → DifferFirst t.names (taken_texts p) place → line + length t.names ≡ first + place → TextFailsAt p t first line Defs
-  behind_definitions : (line : ℕ) (why : Why) → NamesDefinitions p t.names → FailsAt (scope_of p.declared) (start (refuted_problem p t.names)) (numbered_refutation (names_of p.declared.bases p.declared.consts) t) first line why → TextFailsAt p t first line why
+  at_definition :
+      (place line : ℕ)
+      → 0 < length t.names
+      → DifferFirst t.names (taken_texts p) place
+      → line + length t.names ≡ first + place
+      → TextFailsAt p t first line Defs
+  behind_definitions :
+      (line : ℕ) (why : Why)
+      → NamesDefinitions p t.names
+      → FailsAt (scope_of p.declared) (start (refuted_problem p t.names))
+              (numbered_refutation (names_of p.declared.bases p.declared.consts) t) first line why
+      → TextFailsAt p t first line why

@@ -25,10 +25,32 @@ LineFailsStrictly scope rows earlier line why = (is_cut_use line.rule ≡ false)
 
 -- The first strict failure of a refutation, with places as for the first failure.
 pub data FirstStrictFailure (scope : Scope) (start : List Literal) (refutation : Refutation) : ℕ → Why → Type 0 where
-  at_row : (front back : List Row) (r : Row) (why : Why) → refutation.witnesses ≡ front ++ r ∷ back → IsTable scope front → RowFails scope front r why → FirstStrictFailure scope start refutation (length front) why
-  at_line : (front back : List Line) (line : Line) (why : Why) → IsTable scope refutation.witnesses → refutation.lines ≡ front ++ line ∷ back → AreRightLines (with_rows scope refutation.witnesses) refutation.witnesses [] front → HasNoCut front → LineFailsStrictly (with_rows scope refutation.witnesses) refutation.witnesses front line why → FirstStrictFailure scope start refutation (length refutation.witnesses + length front) why
-  at_last : (front : List Line) (line : Line) → IsTable scope refutation.witnesses → refutation.lines ≡ front ++ line ∷ [] → AreRightLines (with_rows scope refutation.witnesses) refutation.witnesses [] refutation.lines → HasNoCut refutation.lines → (Within line.branch start → ⊥) → FirstStrictFailure scope start refutation (length refutation.witnesses + length front) Last
-  no_line : IsTable scope refutation.witnesses → refutation.lines ≡ [] → FirstStrictFailure scope start refutation (length refutation.witnesses) Last
+  at_row :
+      (front back : List Row) (r : Row) (why : Why)
+      → refutation.witnesses ≡ front ++ r ∷ back
+      → IsTable scope front
+      → RowFails scope front r why
+      → FirstStrictFailure scope start refutation (length front) why
+  at_line :
+      (front back : List Line) (line : Line) (why : Why)
+      → IsTable scope refutation.witnesses
+      → refutation.lines ≡ front ++ line ∷ back
+      → AreRightLines scope refutation.witnesses front
+      → HasNoCut front
+      → LineFailsStrictly (with_rows scope refutation.witnesses) refutation.witnesses front line why
+      → FirstStrictFailure scope start refutation (length refutation.witnesses + length front) why
+  at_last :
+      (front : List Line) (line : Line)
+      → IsTable scope refutation.witnesses
+      → refutation.lines ≡ front ++ line ∷ []
+      → AreRightLines scope refutation.witnesses refutation.lines
+      → HasNoCut refutation.lines
+      → (Within line.branch start → ⊥)
+      → FirstStrictFailure scope start refutation (length refutation.witnesses + length front) Last
+  no_line :
+      IsTable scope refutation.witnesses
+      → refutation.lines ≡ []
+      → FirstStrictFailure scope start refutation (length refutation.witnesses) Last
 
 -- the text is accepted for the problem, and none of its lines is a cut
 pub record IsStrictlyAcceptedFor (p : PlainProblem) (t : RefutationTree) : Type 0 where
@@ -44,5 +66,15 @@ pub record FailsStrictlyAt (scope : Scope) (start : List Literal) (refutation : 
 
 -- The first strict failure of a text, with lines as for its first failure.
 pub data TextFailsStrictlyAt (p : PlainProblem) (t : RefutationTree) (first : ℕ) : ℕ → Why → Type 0 where
-  at_definition : (place line : ℕ) → 0 < length t.names → DifferFirst t.names (taken_texts p) place → line + length t.names ≡ first + place → TextFailsStrictlyAt p t first line Defs
-  behind_definitions : (line : ℕ) (why : Why) → NamesDefinitions p t.names → FailsStrictlyAt (scope_of p.declared) (start (refuted_problem p t.names)) (numbered_refutation (names_of p.declared.bases p.declared.consts) t) first line why → TextFailsStrictlyAt p t first line why
+  at_definition :
+      (place line : ℕ)
+      → 0 < length t.names
+      → DifferFirst t.names (taken_texts p) place
+      → line + length t.names ≡ first + place
+      → TextFailsStrictlyAt p t first line Defs
+  behind_definitions :
+      (line : ℕ) (why : Why)
+      → NamesDefinitions p t.names
+      → FailsStrictlyAt (scope_of p.declared) (start (refuted_problem p t.names))
+              (numbered_refutation (names_of p.declared.bases p.declared.consts) t) first line why
+      → TextFailsStrictlyAt p t first line why

@@ -118,7 +118,10 @@ children_text children = comma_separated (map child_text children)
 -- the line of a line, by its number
 abbrev pub line_text : ℕ → LineTree → List ℕ
 line_text k line =
-    decimal k ++ (codes ": " ++ (rule_text line.rule ++ (codes " [" ++ (branch_text line.branch ++ (codes "] [" ++ (children_text line.children ++ codes "]"))))))
+    decimal k
+    ++ (codes ": "
+            ++ (rule_text line.rule
+                    ++ (codes " [" ++ (branch_text line.branch ++ (codes "] [" ++ (children_text line.children ++ codes "]"))))))
 
 abbrev pub row_texts : ℕ → List TermTree → List (List ℕ)
 row_texts k [] = []

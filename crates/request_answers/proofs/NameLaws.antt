@@ -8,7 +8,7 @@ use Rattle.stt_core.specs.Canonical.{IsCanonical, IsNeutral}
 use Rattle.stt_core.proofs.TypeLaws.{given}
 use Rattle.tableau_calculus.specs.Literals.{Literal, IsBranch}
 use Rattle.tableau_calculus.specs.Witnesses.{Row, with_rows, IsTableAfter}
-use Rattle.tableau_calculus.specs.Accepted.{IsTypedUse, AreRightLines, IsAccepted}
+use Rattle.tableau_calculus.specs.Accepted.{IsTypedUse, AreRightAfter, IsAccepted}
 use Rattle.tableau_calculus.specs.Rules.{PlainRule}
 use Rattle.tableau_calculus.specs.declared.rule_use.RuleUse.TheVariants.{AtOne, AtTwo, AllPos, WithPredicate, Cut}
 use Rattle.tableau_calculus.specs.declared.refutation.Line.{Line}
@@ -60,7 +60,7 @@ module _ (names : Names) (scope : Scope) (n : NamesAll names scope) where
   use_named (WithPredicate k f) h = canonical_named [] (predicate h.0) f h.1
   use_named (Cut l) h = canonical_named [] formula l.atom h.formula
 
-  lines_named : (rows : List Row) (earlier lines : List Line) → AreRightLines scope rows earlier lines → LinesHaveNames names lines
+  lines_named : (rows : List Row) (earlier lines : List Line) → AreRightAfter scope rows earlier lines → LinesHaveNames names lines
   lines_named rows earlier [] h = tt
   lines_named rows earlier (l ∷ lines) h =
       (record { branch_named = branch_named l.branch h.0.typed.0; rule_named = use_named l.rule h.0.typed.1 }, lines_named rows (earlier ++ l ∷ []) lines h.1)

@@ -13,7 +13,7 @@ use Rattle.stt_core.specs.Canonical.{IsCanonical, IsNeutral}
 use Rattle.tableau_calculus.specs.Literals as plain
 use Rattle.tableau_calculus.specs.Literals.{Literal, IsBranch}
 use Rattle.tableau_calculus.specs.Witnesses.{Row, with_rows, IsTableAfter}
-use Rattle.tableau_calculus.specs.Accepted.{IsTypedUse, AreRightLines, IsAccepted}
+use Rattle.tableau_calculus.specs.Accepted.{IsTypedUse, AreRightAfter, IsAccepted}
 use Rattle.tableau_calculus.specs.Rules.{PlainRule}
 use Rattle.tableau_calculus.specs.declared.rule_use.RuleUse.TheVariants.{AtOne, AtTwo, AllPos, WithPredicate, Cut}
 use Rattle.tableau_calculus.specs.declared.refutation.Line.{Line}
@@ -224,7 +224,7 @@ module _ (names : Names) (words : AreWords names) (scope : Scope) (all_named : N
   rule_written (WithPredicate k f) h small = term_written (predicate h.0) f h.1 small
   rule_written (Cut l) h small = literal_written l h small
 
-  lines_written : (rows : List Row) (earlier lines : List Line) → AreRightLines scope rows earlier lines → AllByRecursion IsSmallLine lines → AllByRecursion IsLine (map (named_line names) lines)
+  lines_written : (rows : List Row) (earlier lines : List Line) → AreRightAfter scope rows earlier lines → AllByRecursion IsSmallLine lines → AllByRecursion IsLine (map (named_line names) lines)
   lines_written rows earlier [] h small = tt
   lines_written rows earlier (l ∷ lines) h small = (
     record { branch = branch_written l.branch h.0.typed.0 small.0.branch; rule = rule_written l.rule h.0.typed.1 small.0.rule; children = small.0.children },

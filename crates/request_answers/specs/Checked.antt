@@ -70,5 +70,8 @@ AnswersText cuts seen file p answer = OfFile seen file (λ bytes. AnswersBytes c
 pub record HoldsOnly (p : PlainProblem) (bytes : List ℕ) (refutation : Refutation) : Type 0 where
   pub first : ℕ
   pub reads : ReadsText (lines_of bytes) (read (named_refutation (names_in p) (taken_names p) refutation) first)
-  pub only : (reading : TextReading) → ReadsText (lines_of bytes) reading → reading ≡ read (named_refutation (names_in p) (taken_names p) refutation) first
+  pub only :
+      (reading : TextReading)
+      → ReadsText (lines_of bytes) reading
+      → reading ≡ read (named_refutation (names_in p) (taken_names p) refutation) first
   pub numbered : numbered_refutation (names_in p) (named_refutation (names_in p) (taken_names p) refutation) ≡ refutation

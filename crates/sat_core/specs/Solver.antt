@@ -27,7 +27,8 @@ learned solver = learned_from solver.is_refuted (results solver.log)
 
 -- each clause from number n on is new to unit propagation over some clauses and the learned ones before it
 abbrev pub AreNewFrom : ℕ → List (List SatLit) → List (List SatLit) → Type 0
-AreNewFrom n clauses learned = (k : ℕ) (clause : List SatLit) → n ≤ k → slice_get learned k ≡ Some clause → IsNew (clauses ++ take k learned) clause
+AreNewFrom n clauses learned =
+    (k : ℕ) (clause : List SatLit) → n ≤ k → slice_get learned k ≡ Some clause → IsNew (clauses ++ take k learned) clause
 
 -- the variables of the clauses are in the list
 abbrev pub AreAmong : List Var → List (List SatLit) → Type 0
@@ -35,7 +36,8 @@ AreAmong variables clauses = All (λ clause. All (λ l. Contains variables l.var
 
 -- each literal of the clauses occurs in others
 abbrev pub OccurIn : List (List SatLit) → List (List SatLit) → Type 0
-OccurIn others clauses = (clause : List SatLit) (l : SatLit) → Contains clauses clause → IsTrue (holds clause l) → Any (λ c. IsTrue (holds c l)) others
+OccurIn others clauses =
+    (clause : List SatLit) (l : SatLit) → Contains clauses clause → IsTrue (holds clause l) → Any (λ c. IsTrue (holds c l)) others
 
 -- A clause is learned from clauses, after earlier ones: the clauses imply it, and it is new to unit propagation over them and the earlier
 -- ones.
@@ -50,7 +52,11 @@ pub record WereLearned (clauses learned : List (List SatLit)) : Type 0 where
   pub counted : length there ≡ length learned
   pub in_order : AllPairs (λ n m. n ≤ m) there
   pub within : All (λ n. n ≤ length clauses) there
-  pub each : (k n : ℕ) (clause : List SatLit) → slice_get there k ≡ Some n → slice_get learned k ≡ Some clause → IsLearnedFrom (take n clauses) (take k learned) clause
+  pub each :
+      (k n : ℕ) (clause : List SatLit)
+      → slice_get there k ≡ Some n
+      → slice_get learned k ≡ Some clause
+      → IsLearnedFrom (take n clauses) (take k learned) clause
 
 -- The log's results are their chains'. The learned clauses hold no variable twice, no two of them are alike, their literals occur in the
 -- clauses, and each was learned from the clauses that were there. Where the empty clause was derived it is the last result.

@@ -22,7 +22,8 @@ IsConsistent literals = (l : SatLit) → IsTrue (holds literals l) → IsTrue (h
 -- each later literal is the only one of some clause whose negation is not earlier in the list
 abbrev pub Propagates : List (List SatLit) → List SatLit → List SatLit → Type 0
 Propagates clauses earlier [] = Unit {0}
-Propagates clauses earlier (l ∷ later) = Any (λ clause. IsUnitClause earlier clause l) clauses × Propagates clauses (earlier ++ l ∷ []) later
+Propagates clauses earlier (l ∷ later) =
+    Any (λ clause. IsUnitClause earlier clause l) clauses × Propagates clauses (earlier ++ l ∷ []) later
 
 -- a propagation list over the clauses from the given literals: these, and then literals that are propagated
 pub record IsPropagation (clauses : List (List SatLit)) (given literals : List SatLit) : Type 0 where

@@ -6,7 +6,6 @@ use Rattle.stt_core.specs.Meaning.{Model, IsModel}
 use Rattle.stt_core.specs.Meets.{MeetsProblem}
 use Rattle.stt_core.specs.PlainProblem.{PlainProblem}
 use Rattle.stt_core.specs.Declarations.{scope_of}
-use Rattle.tableau_calculus.specs.Witnesses.{with_rows}
 use Rattle.tableau_calculus.specs.Closed.{Closes, tableau_of}
 use Rattle.tableau_calculus.specs.Start.{start}
 use Rattle.tableau_calculus.specs.declared.refutation.Refutation.{Refutation}
@@ -102,7 +101,9 @@ IsModeAsked seen r mode = IsModeBy seen (mode_file r) mode
 abbrev pub EnoughAsked : Option Request → Seen → Type 0
 EnoughAsked None seen = Unit {0}
 EnoughAsked (Some r) seen =
-    (mode : Mode) (names : List (List ℕ)) (p : PlainProblem) → IsModeAsked seen r mode → OfFiles (problem_name r) (seen_of seen r) names (Statements p)
+    (mode : Mode) (names : List (List ℕ)) (p : PlainProblem)
+    → IsModeAsked seen r mode
+    → OfFiles (problem_name r) (seen_of seen r) names (Statements p)
     → HasEnoughConflicts (setting_for p mode) (start (unfolded_problem p))
 
 abbrev pub AreConflictsEnough : List (List ℕ) → Seen → Type 0
@@ -133,7 +134,8 @@ pub record IsAskedInTurns (words : List (List ℕ)) (seen : Seen) (p : PlainProb
 -- tree is asked for.
 abbrev pub IsReportedSo : List (List ℕ) → Seen → PlainProblem → Mode → Option ℕ → ℕ → ℕ → Option ℕ → Type 0
 IsReportedSo words seen p mode nodes n reported None = IsAskedBy words seen mode nodes × (reported ≡ n)
-IsReportedSo words seen p mode nodes n reported (Some i) = (nodes ≡ None) × ((number : ℕ) × (i ≡ number + 1) × IsAskedInTurns words seen p mode reported number)
+IsReportedSo words seen p mode nodes n reported (Some i) =
+    (nodes ≡ None) × ((number : ℕ) × (i ≡ number + 1) × IsAskedInTurns words seen p mode reported number)
 
 -- a tree is made whole
 abbrev pub IsTreeMade : Option Stripped → Type 0
@@ -163,14 +165,20 @@ pub record IsProofReport (words : List (List ℕ)) (seen : Seen) (outcome : Outc
   pub rebuilt : Refutation
   pub refuted : IsRefuted (unfolded_problem problem) mode commands rebuilt
   pub stripped : Option Stripped
-  pub tree : IsTreeAsked (scope_of problem.declared) (start (unfolded_problem problem)) (filter is_shallow_literal (start (unfolded_problem problem))) refuted.shortly.input nodes stripped
+  pub tree :
+      IsTreeAsked (scope_of problem.declared) (start (unfolded_problem problem))
+          (filter is_shallow_literal (start (unfolded_problem problem))) refuted.shortly.input nodes stripped
   pub refutation : Refutation
   pub is_written : refutation ≡ reported_refutation rebuilt stripped
-  pub is_report : written ≡ report_of (asked_name words) (Proved (claim_of problem) reported number (tree_told stripped) (as_bytes (text_lines (named_refutation (names_in problem) (taken_names problem) refutation))))
+  pub is_report :
+      written
+          ≡ report_of (asked_name words)
+                  (Proved (claim_of problem) reported number (tree_told stripped)
+                          (as_bytes (text_lines (named_refutation (names_in problem) (taken_names problem) refutation))))
   pub holds : HoldsOnly problem written refutation
   pub accepted_text : IsAcceptedText Allowed problem written
   pub strict_text : IsTreeMade stripped → IsAcceptedText Forbidden problem written
-  pub closed : Closes (with_rows (scope_of problem.declared) refutation.witnesses) refutation.witnesses (tableau_of refutation) (start (unfolded_problem problem))
+  pub closed : Closes (scope_of problem.declared) refutation.witnesses (tableau_of refutation) (start (unfolded_problem problem))
   pub no_model : IsWithoutModel problem
 
 -- the bytes appended to old are written as one of the reports for which R holds

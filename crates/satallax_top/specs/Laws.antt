@@ -17,7 +17,8 @@ ProofPropagatesWithoutConflict =
 abbrev pub SpentEndsNoLaterThanProof : Type 0
 SpentEndsNoLaterThanProof =
     (words : List (List ℕ)) (seen : Seen) (outcome : Outcome) (written : List ℕ) (conflicts : ℕ)
-    (report : IsProofReport words seen outcome written) (spent : IsSolved report.nodes report.mode report.problem (ConflictLimit conflicts)) → spent.commands ≤ report.commands
+    (report : IsProofReport words seen outcome written) (spent : IsSolved report.nodes report.mode report.problem (ConflictLimit conflicts))
+    → spent.commands ≤ report.commands
 
 -- and earlier where all that the proof's run learned, it learned too
 abbrev pub SpentEndsBeforeProof : Type 0

@@ -78,5 +78,9 @@ pub record IsModelReport (words : List (List ℕ)) (seen : Seen) (outcome : Outc
   pub is_model : IsModel (scope_of problem.declared) (model_of size (model_symbols problem) values)
   pub has_size : HasSize size (model_of size (model_symbols problem) values)
   pub meets : MeetsProblem problem (model_of size (model_symbols problem) values)
-  pub is_outcome : outcome ≡ outcome_of (model_answer_by problem.conjecture size (model_text (names_in problem) (model_symbols problem) values))
-  pub is_report : written ≡ report_of (asked_name words) (model_answer_by problem.conjecture size (model_text (names_in problem) (model_symbols problem) values))
+  pub is_outcome :
+      outcome ≡ outcome_of (model_answer_by problem.conjecture size (model_text (names_in problem) (model_symbols problem) values))
+  pub is_report :
+      written
+          ≡ report_of (asked_name words)
+                  (model_answer_by problem.conjecture size (model_text (names_in problem) (model_symbols problem) values))

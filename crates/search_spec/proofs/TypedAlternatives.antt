@@ -9,11 +9,11 @@ use Rattle.stt_core.proofs.TypeLaws.{constant_declared}
 use Rattle.normal_forms.specs.Normal.{eta, apply}
 use Rattle.tableau_calculus.specs.Literals.{Literal, opposite, as_literal, IsLiteral, IsBranch}
 use Rattle.tableau_calculus.specs.Witnesses.{Row}
-use Rattle.tableau_calculus.specs.Rules.{PlainRule, Rule, alone_rule, close_rule, all_pos_rule, all_neg_rule, mat_rule, dec_rule, con_rule, cho_rule, des_rule, cut_rule, agreement, nowhere, chosen, at_most_once, described, differ_each}
+use Rattle.tableau_calculus.specs.Rules.{PlainRule, Rule, alone_rule, close_rule, all_pos_rule, all_neg_rule, mat_rule, dec_rule, con_rule, cho_rule, des_rule, cut_rule, nowhere, chosen, at_most_once, described, differ_each}
 use Rattle.tableau_calculus.proofs.AloneLaws.{alone_typed}
 use Rattle.tableau_calculus.proofs.LiteralLaws.{as_literal-is_literal, opposite-is_literal}
 use Rattle.tableau_calculus.proofs.EquationLaws.{eq_canonical, differ-is_literal}
-use Rattle.tableau_calculus.proofs.FunctionLaws.{every_canonical, canonical-agreement, canonical-nowhere, canonical-chosen, canonical-at_most_once, canonical-described, canonical-applied}
+use Rattle.tableau_calculus.proofs.FunctionLaws.{every_canonical, canonical-nowhere, canonical-chosen, canonical-at_most_once, canonical-described, canonical-applied}
 use Rattle.tableau_calculus.proofs.DecompositionLaws.{Takes, arguments_taken}
 use Rattle.tableau_calculus.proofs.RuleLaws.{canonical-witness}
 use Rattle.tableau_calculus.specs.Each.{Each}

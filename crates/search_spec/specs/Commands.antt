@@ -16,16 +16,19 @@ use Rattle.search_spec.specs.Processing.{with_processing}
 -- two literals with the same head, which differ in an argument
 abbrev pub with_mating : Setting → Literal → Literal → State → State
 with_mating setting l m s =
-    with_instance setting.mode (l ∷ m ∷ []) (differ (type_of (scope_in setting s) [] (head_of l.atom)) (arguments l.atom) (arguments m.atom)) s
+    with_instance setting.mode (l ∷ m ∷ [])
+        (differ (type_of (scope_in setting s) [] (head_of l.atom)) (arguments l.atom) (arguments m.atom)) s
 
 -- an equation and the negation of one, by their atoms
 abbrev pub with_confrontation : Setting → Literal → Literal → Lambda → Lambda → State → State
-with_confrontation setting l m (app (app (constant (equality a)) s) t) (app (app c u) v) state = with_instance setting.mode (l ∷ m ∷ []) (con a s t u v) state
+with_confrontation setting l m (app (app (constant (equality a)) s) t) (app (app c u) v) state =
+    with_instance setting.mode (l ∷ m ∷ []) (con a s t u v) state
 with_confrontation setting l m s t state = state
 
 -- a universal literal and a term, where the term isn't too deep
 abbrev pub with_instantiation : Setting → Literal → Lambda → Lambda → State → State
-with_instantiation setting l (app (constant (all a)) f) u state = if is_shallow u then with_instance setting.mode (l ∷ []) (all_pos f u) state else state
+with_instantiation setting l (app (constant (all a)) f) u state =
+    if is_shallow u then with_instance setting.mode (l ∷ []) (all_pos f u) state else state
 with_instantiation setting l t u state = state
 
 -- a partial term after it has grown: a term, where no hole is left, or else to be opened

@@ -1,4 +1,5 @@
--- What a mode's key `defaults` makes wait longer: what stands for a value of which nothing is known. At its standard number it adds nothing.
+-- What a mode's key `defaults` makes wait longer: what stands for a value of which nothing is known. At its standard number it adds
+-- nothing.
 use Rattle.std.specs.Prelude.{ℕ, ◌&&◌, nat_lt, Bool, true, false, if◌then◌else◌}
 use Rattle.stt_core.specs.SimpleType.{SimpleType, base, arrow}
 use Rattle.stt_core.specs.Lambda.{falsity, choice, Lambda, constant, lam, app}

@@ -21,5 +21,6 @@ with_literals mode (l ∷ ls) s = with_literals mode ls (with_literal mode l s)
 abbrev pub with_instance : Mode → List Literal → Alternatives → State → State
 with_instance mode principals alternatives s =
     if list_all (list_all is_shallow_literal) alternatives
-    then with_literals mode (flat_map (λ (a : List Literal). a) alternatives) (record s { clauses = with_clauses formulas s.clauses (instance_clauses formulas principals alternatives) })
+    then with_literals mode (flat_map (λ (a : List Literal). a) alternatives)
+        (record s { clauses = with_clauses formulas s.clauses (instance_clauses formulas principals alternatives) })
     else s

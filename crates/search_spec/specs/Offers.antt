@@ -30,7 +30,8 @@ is_prepared mode (arrow a b) s = list_any (λ p. same_type (arrow a b) p.type) s
 -- the witnesses of exactly this type in their eta-long forms, in order; that of the first row has this number
 abbrev pub witness_terms : SimpleType → ℕ → List Row → List Lambda
 witness_terms a k [] = []
-witness_terms a k (r ∷ rows) = if same_type a r.type then eta a (constant (witness k)) ∷ witness_terms a (suc k) rows else witness_terms a (suc k) rows
+witness_terms a k (r ∷ rows) =
+    if same_type a r.type then eta a (constant (witness k)) ∷ witness_terms a (suc k) rows else witness_terms a (suc k) rows
 
 -- the terms that a type gets before its first ones where it is prepared
 abbrev pub early_terms : Mode → SimpleType → State → List Lambda

@@ -22,7 +22,8 @@ use Rattle.search_spec.specs.Witness.{with_denied}
 abbrev pub with_decomposition : Setting → SimpleType → Lambda → Lambda → State → State
 with_decomposition setting a s t state =
     if is_spine s && same_head s t
-    then with_instance setting.mode (minus (eq a s t) ∷ []) (differ (type_of (scope_in setting state) [] (head_of s)) (arguments s) (arguments t)) state
+    then with_instance setting.mode (minus (eq a s t) ∷ [])
+        (differ (type_of (scope_in setting state) [] (head_of s)) (arguments s) (arguments t)) state
     else state
 
 abbrev pub with_confrontations : Setting → SimpleType → Literal → State → State
@@ -34,7 +35,9 @@ with_equation setting (base zero) true s t = with_instance setting.mode (plus (e
 with_equation setting (base zero) false s t = with_instance setting.mode (minus (eq formula s t) ∷ []) (bool_neg s t)
 with_equation setting (arrow a b) true s t = with_instance setting.mode (plus (eq (arrow a b) s t) ∷ []) (fun_pos a b s t)
 with_equation setting (arrow a b) false s t =
-    λ state. with_instance setting.mode (minus (eq (arrow a b) s t) ∷ []) (fun_neg a b s t) (with_terms setting.mode (arrow a b) (offered_sides setting.mode s t) state)
+    λ state.
+        with_instance setting.mode (minus (eq (arrow a b) s t) ∷ []) (fun_neg a b s t)
+            (with_terms setting.mode (arrow a b) (offered_sides setting.mode s t) state)
 with_equation setting (base (suc n)) true s t = with_confrontations setting (base (suc n)) (plus (eq (base (suc n)) s t))
 with_equation setting (base (suc n)) false s t =
     λ state. with_confrontations setting (base (suc n)) (minus (eq (base (suc n)) s t))
@@ -61,8 +64,10 @@ pub record LiteralRule (l : Literal) : Type 0 where
 -- the rule that a literal of this sign has by the connective of its atom
 abbrev pub connective_rule : (t : Lambda) (sign : Bool) → Option (LiteralRule (record { positive = sign; atom = t }))
 connective_rule (constant falsity) true = Some (record { kind = False; alternatives = []; fits = false_alone })
-connective_rule (app (app (constant implication) s) t) true = Some (record { kind = ImpPos; alternatives = imp_pos s t; fits = imp_pos_alone s t })
-connective_rule (app (app (constant implication) s) t) false = Some (record { kind = ImpNeg; alternatives = imp_neg s t; fits = imp_neg_alone s t })
+connective_rule (app (app (constant implication) s) t) true =
+    Some (record { kind = ImpPos; alternatives = imp_pos s t; fits = imp_pos_alone s t })
+connective_rule (app (app (constant implication) s) t) false =
+    Some (record { kind = ImpNeg; alternatives = imp_neg s t; fits = imp_neg_alone s t })
 connective_rule t sign = None
 
 -- the instance of the literal's rule, or its matings where it has none

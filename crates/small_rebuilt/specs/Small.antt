@@ -47,7 +47,8 @@ pub record AreTermsSmall (r : Refutation) : Type 0 where
   pub lines : AllByRecursion HasSmallParts r.lines
 
 abbrev pub RebuiltTermsAreSmall : Type 0
-RebuiltTermsAreSmall = (input : Input) (refutation : Refutation) → InputHasSmallTerms input → IsRebuilt input refutation → AreTermsSmall refutation
+RebuiltTermsAreSmall =
+    (input : Input) (refutation : Refutation) → InputHasSmallTerms input → IsRebuilt input refutation → AreTermsSmall refutation
 
 -- the places that a rule is used at are numbers of the machine
 abbrev pub HasPlaces : PlainRule → Type 0

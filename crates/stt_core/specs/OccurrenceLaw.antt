@@ -19,4 +19,6 @@ pub record AgreeOn (m n : Model) (env other : List ℕ) (t : Lambda) : Type 0 wh
 -- a value depends on what occurs in the term, and on nothing else
 abbrev pub ValuesDependOnOccurrences : Type 0
 ValuesDependOnOccurrences =
-    (scope : Scope) (ctx : List SimpleType) (m n : Model) (env other : List ℕ) (t : Lambda) → AgreeOn m n env other t → value scope m ctx env t ≡ value scope n ctx other t
+    (scope : Scope) (ctx : List SimpleType) (m n : Model) (env other : List ℕ) (t : Lambda)
+    → AgreeOn m n env other t
+    → value scope m ctx env t ≡ value scope n ctx other t

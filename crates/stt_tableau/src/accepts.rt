@@ -136,7 +136,7 @@ fn check_lines(
 ) -> Result<(), PlainRefused>
     requires types { types.now ≡ map (λ r. r.type) refutation.now.witnesses }
     requires table { IsTable (the_scope sig.now []) refutation.now.witnesses }
-    ensures right { OnOk result (AreRightLines (with_rows (the_scope sig.now []) refutation.now.witnesses) refutation.now.witnesses [] refutation.now.lines) }
+    ensures right { OnOk result (AreRightLines (the_scope sig.now []) refutation.now.witnesses refutation.now.lines) }
     ensures refused { IfErr result (λ e. IfRefused e (λ line why. (start : List Literal) → FirstFailure (the_scope sig.now []) start refutation.now line why)) }
 {
     let lines = &refutation.lines;
@@ -152,7 +152,7 @@ fn check_lines(
 /// Whether the last line's branch is within the start.
 fn check_last(start: &Lits, refutation: &Refutation) -> Result<(), PlainRefused>
     ensures last { OnOk result (EndsWithin start.now refutation.now.lines) }
-    ensures refused { IfErr result (λ e. IfRefused e (λ line why. (scope : Scope) → IsTable scope refutation.now.witnesses → AreRightLines (with_rows scope refutation.now.witnesses) refutation.now.witnesses [] refutation.now.lines → FirstFailure scope start.now refutation.now line why)) }
+    ensures refused { IfErr result (λ e. IfRefused e (λ line why. (scope : Scope) → IsTable scope refutation.now.witnesses → AreRightLines scope refutation.now.witnesses refutation.now.lines → FirstFailure scope start.now refutation.now line why)) }
 {
     let rows = refutation.witnesses.len();
     let count = refutation.lines.len();

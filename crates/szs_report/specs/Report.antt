@@ -48,7 +48,8 @@ detail_lines mode tree = mode_lines mode ++ tree_lines tree
 -- the report of a proof: its head, what is told beside, and the text of the refutation between its marks
 abbrev pub counted_report : List ℕ → List ℕ → List ℕ → List (List ℕ) → List ℕ → List ℕ
 counted_report status name count details text =
-    as_bytes ((status ++ name) ∷ (codes "% commands " ++ count) ∷ (details ++ (start_mark ++ name) ∷ [])) ++ (text ++ as_bytes ((end_mark ++ name) ∷ []))
+    as_bytes ((status ++ name) ∷ (codes "% commands " ++ count) ∷ (details ++ (start_mark ++ name) ∷ []))
+    ++ (text ++ as_bytes ((end_mark ++ name) ∷ []))
 
 abbrev pub proof_report : List ℕ → List ℕ → ℕ → Option ℕ → TreeReport → List ℕ → List ℕ
 proof_report status name n mode tree text = counted_report status name (decimal n) (detail_lines mode tree) text
@@ -117,11 +118,13 @@ why_word cause.Defs = codes "defs"
 
 -- the report of a refutation's text that is refused at a line
 abbrev pub refused_report : List ℕ → List ℕ → List ℕ → List ℕ
-refused_report name line word = as_bytes ((codes "% refutation refused for " ++ (name ++ (codes " line " ++ (line ++ (codes " " ++ word))))) ∷ [])
+refused_report name line word =
+    as_bytes ((codes "% refutation refused for " ++ (name ++ (codes " line " ++ (line ++ (codes " " ++ word))))) ∷ [])
 
 -- the report of a generated problem whose proof is accepted
 abbrev pub demo_report : List ℕ → List ℕ → List ℕ → List ℕ
-demo_report status name count = as_bytes ((status ++ name) ∷ (codes "% commands " ++ count) ∷ (codes "% refutation accepted for " ++ name) ∷ [])
+demo_report status name count =
+    as_bytes ((status ++ name) ∷ (codes "% commands " ++ count) ∷ (codes "% refutation accepted for " ++ name) ∷ [])
 
 -- a line of a mode's file or of a schedule's, and why it isn't taken
 abbrev pub line_why : List ℕ → List ℕ → List ℕ
@@ -143,16 +146,24 @@ report_of name (Refused line why) = refused_report name (decimal line) (why_word
 report_of name (CounterSatisfiable s lines) = model_report (codes "% SZS status CounterSatisfiable for ") name (decimal s) lines
 report_of name (Satisfiable s lines) = model_report (codes "% SZS status Satisfiable for ") name (decimal s) lines
 report_of name (NoneSmall k) = headed_report (codes "% SZS status GaveUp for ") name (codes "% no model up to ") (decimal k)
-report_of name (ModelsTooMany s) = headed_report (codes "% SZS status ResourceOut for ") name (codes "% models too many at size ") (decimal s)
+report_of name (ModelsTooMany s) =
+    headed_report (codes "% SZS status ResourceOut for ") name (codes "% models too many at size ") (decimal s)
 report_of name Same = line_report (codes "% sides convertible for ") name
 report_of name Different = line_report (codes "% sides not convertible for ") name
 report_of name NoEquation = line_report (codes "% no equation for ") name
-report_of name (SyntaxAt file at) = headed_report (codes "% SZS status SyntaxError for ") name (codes "% syntax ") (place_report (file_name file) at)
-report_of name (TypeAt file at why) = headed_report (codes "% SZS status InputError for ") name (codes "% type ") (refused_in (file_name file) at (ill_word why))
-report_of name (IncludeAt file at why) = headed_report (codes "% SZS status InputError for ") name (codes "% include ") (refused_in (file_name file) at (include_word why))
-report_of name (ModeAt line why) = headed_report (codes "% SZS status InputError for ") name (codes "% mode ") (line_why (decimal line) (mode_word why))
-report_of name (ScheduleAt line why) = headed_report (codes "% SZS status InputError for ") name (codes "% schedule ") (line_why (decimal line) (schedule_word why))
-report_of name Words = codes "% usage: satallax [--mode FILE] [--check FILE] [--demo N] [--models K] [--schedule FILE] [--tree N] [--strict FILE] [--same] PROBLEM\n"
+report_of name (SyntaxAt file at) =
+    headed_report (codes "% SZS status SyntaxError for ") name (codes "% syntax ") (place_report (file_name file) at)
+report_of name (TypeAt file at why) =
+    headed_report (codes "% SZS status InputError for ") name (codes "% type ") (refused_in (file_name file) at (ill_word why))
+report_of name (IncludeAt file at why) =
+    headed_report (codes "% SZS status InputError for ") name (codes "% include ") (refused_in (file_name file) at (include_word why))
+report_of name (ModeAt line why) =
+    headed_report (codes "% SZS status InputError for ") name (codes "% mode ") (line_why (decimal line) (mode_word why))
+report_of name (ScheduleAt line why) =
+    headed_report (codes "% SZS status InputError for ") name (codes "% schedule ") (line_why (decimal line) (schedule_word why))
+report_of name Words =
+    codes "% usage: satallax [--mode FILE] [--check FILE] [--demo N] [--models K] [--schedule FILE] [--tree N] [--strict FILE] [--same]
+        PROBLEM\n"
 report_of name (TooLong file) = headed_report (codes "% SZS status InputError for ") name (codes "% too long ") (file_name file)
 report_of name (ReadFault file) = headed_report (codes "% SZS status InputError for ") name (codes "% read fault ") (file_name file)
 report_of name Memory = headed_report (codes "% SZS status ResourceOut for ") name (codes "% memory") []

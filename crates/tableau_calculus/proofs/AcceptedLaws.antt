@@ -5,8 +5,8 @@ use Rattle.tableau_calculus.specs.Literals.{Literal}
 use Rattle.tableau_calculus.specs.Witnesses.{Row, with_rows}
 use Rattle.tableau_calculus.specs.RuleUses.{principals_of}
 use Rattle.tableau_calculus.specs.Rules.{Rule, AreAt}
-use Rattle.tableau_calculus.specs.Accepted.{Within, AreChildren, IsRightLine, AreRightLines, IsAccepted}
-use Rattle.tableau_calculus.specs.Closed.{Tableau, leaf, Closes, CloseAll, literals_at, tableaux_of, tableau_of_line, tableau_after, tableau_of}
+use Rattle.tableau_calculus.specs.Accepted.{Within, AreChildren, IsRightLine, AreRightAfter, IsAccepted}
+use Rattle.tableau_calculus.specs.Closed.{Tableau, leaf, ClosesIn, Closes, CloseAll, literals_at, tableaux_of, tableau_of_line, tableau_after, tableau_of}
 use Rattle.tableau_calculus.specs.declared.refutation.Child.{Child}
 use Rattle.tableau_calculus.specs.declared.refutation.Child.TheVariants.{Closed, Line as Numbered}
 use Rattle.tableau_calculus.specs.declared.refutation.Line.{Line}
@@ -28,7 +28,7 @@ within-at branch (i ∷ is) (l ∷ ls) h = (contains-get branch i l h.0, within-
 module _ (scope : Scope) (rows : List Row) where
   -- the tableau closes each branch that the line's branch is within
   pub record Covers (line : Line) (tableau : Tableau) : Type 0 where
-    pub closes : (branch : List Literal) → Within line.branch branch → Closes scope rows tableau branch
+    pub closes : (branch : List Literal) → Within line.branch branch → ClosesIn scope rows tableau branch
 
   -- each line has its tableau
   abbrev pub CoverAll : List Line → List Tableau → Type 0
@@ -69,7 +69,7 @@ module _ (scope : Scope) (rows : List Row) where
     );
   }
 
-  last_covers : (front : List Line) (last : Line) (lines earlier : List Line) (before : Tableau) (tableaux : List Tableau) → lines ≡ front ++ last ∷ [] → CoverAll earlier tableaux → AreRightLines scope rows earlier lines → Covers last (tableau_after before tableaux lines)
+  last_covers : (front : List Line) (last : Line) (lines earlier : List Line) (before : Tableau) (tableaux : List Tableau) → lines ≡ front ++ last ∷ [] → CoverAll earlier tableaux → AreRightAfter scope rows earlier lines → Covers last (tableau_after before tableaux lines)
   last_covers [] last [] earlier before tableaux e cover right = cc
   last_covers (f ∷ front) last [] earlier before tableaux e cover right = cc
   last_covers [] last (line ∷ k ∷ lines) earlier before tableaux e cover right = cc
@@ -82,7 +82,7 @@ module _ (scope : Scope) (rows : List Row) where
       last_covers front last lines (earlier ++ line ∷ []) tableau (tableaux ++ tableau ∷ []) rest (cover-append earlier tableaux line tableau cover (line_covers earlier tableaux cover line right.0)) right.1
 
 -- where a refutation is accepted, its tableau closes each branch that the last line's branch is within
-pub accepted_closes : (scope : Scope) (start : List Literal) (refutation : Refutation) (accepted : IsAccepted scope start refutation) (branch : List Literal) → Within accepted.last.last.branch branch → Closes (with_rows scope refutation.witnesses) refutation.witnesses (tableau_of refutation) branch
+pub accepted_closes : (scope : Scope) (start : List Literal) (refutation : Refutation) (accepted : IsAccepted scope start refutation) (branch : List Literal) → Within accepted.last.last.branch branch → Closes scope refutation.witnesses (tableau_of refutation) branch
 accepted_closes scope start refutation accepted branch w =
     let rows = refutation.witnesses in
     let covers = last_covers (with_rows scope rows) rows accepted.last.front accepted.last.last refutation.lines [] leaf [] accepted.last.are tt accepted.lines in

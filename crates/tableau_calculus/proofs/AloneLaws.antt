@@ -1,5 +1,5 @@
 -- The rules that look at one principal and at nothing else.
-use Rattle.std.proofs.Common.{◌≡◌, ℕ, zero, suc, ◌<◌, List, [], ◌∷◌, refl, sym, ap, ap₂, ◌∙◌, nat_eq, if◌then◌else◌, ◌⊎◌, inl, inr, ⊎_elim, arith}
+use Rattle.std.proofs.Common.{◌≡◌, ℕ, zero, suc, ◌<◌, [], ◌∷◌, refl, sym, ap, ap₂, ◌∙◌, nat_eq, if◌then◌else◌, ◌⊎◌, inl, inr, ⊎_elim, arith}
 use Rattle.stt_core.specs.SimpleType.{SimpleType, arrow, formula}
 use Rattle.stt_core.specs.Lambda.{falsity, negation, Lambda, constant, app, imp, eq}
 use Rattle.stt_core.specs.Typing.{Scope}

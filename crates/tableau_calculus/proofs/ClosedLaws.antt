@@ -7,7 +7,7 @@ use Rattle.tableau_calculus.specs.Meets.{MeetsLiteral, MeetsBranch, MeetsOne}
 use Rattle.tableau_calculus.specs.Witnesses.{Row}
 use Rattle.tableau_calculus.specs.Along.{GoesAlong}
 use Rattle.tableau_calculus.specs.RuleUses.{principals_of}
-use Rattle.tableau_calculus.specs.Accepted.{Within, ClosesBy, AreChildren, IsRightLine, AreRightLines}
+use Rattle.tableau_calculus.specs.Accepted.{Within, ClosesBy, AreChildren, IsRightLine, AreRightAfter}
 use Rattle.tableau_calculus.specs.declared.refutation.Child.{Child}
 use Rattle.tableau_calculus.specs.declared.refutation.Child.TheVariants.{Closed, Line as Numbered}
 use Rattle.tableau_calculus.specs.declared.refutation.Line.{Line}
@@ -72,7 +72,7 @@ module _ (scope : Scope) (rows : List Row) (types : scope.witnesses ≡ map (λ 
       (rule_keeps scope m good rows types along line.rule principals right.alternatives right.instance.fits (branch-within scope principals line.branch there right.typed.0) (meets-within scope m principals line.branch there met))
 
   -- nor is that of the last of right lines
-  pub last_refutes : (front : List Line) (last : Line) (lines earlier : List Line) → lines ≡ front ++ last ∷ [] → MeetsNone earlier → AreRightLines scope rows earlier lines → MeetsBranch scope m last.branch → ⊥
+  pub last_refutes : (front : List Line) (last : Line) (lines earlier : List Line) → lines ≡ front ++ last ∷ [] → MeetsNone earlier → AreRightAfter scope rows earlier lines → MeetsBranch scope m last.branch → ⊥
   last_refutes [] last [] earlier e none right = cc
   last_refutes (f ∷ front) last [] earlier e none right = cc
   last_refutes [] last (line ∷ lines) earlier e none right =

@@ -8,7 +8,7 @@ use Rattle.stt_core.specs.ScopeView.{the_scope}
 use Rattle.stt_core.specs.declared.signature.Signature.{Signature}
 use Rattle.tableau_calculus.specs.Literals.{Literal}
 use Rattle.tableau_calculus.specs.Witnesses.{Row, with_rows, IsTypedRow, IsTwice, IsTableAfter, IsTable}
-use Rattle.tableau_calculus.specs.Accepted.{Within, IsRightLine, AreRightLines, EndsWithin, RowFails, LineFails, FirstFailure, at_row, at_line, at_last, no_line}
+use Rattle.tableau_calculus.specs.Accepted.{Within, IsRightLine, AreRightAfter, AreRightLines, EndsWithin, RowFails, LineFails, FirstFailure, at_row, at_line, at_last, no_line}
 use Rattle.tableau_calculus.specs.declared.refutation.Line.{Line}
 use Rattle.tableau_calculus.specs.declared.refutation.Refutation.{Refutation}
 use Rattle.tableau_calculus.specs.declared.refutation.Why.{Why}
@@ -45,14 +45,14 @@ table-more scope rows i r at h typed once =
     subst (IsTable scope) (sym (take_got rows i r at)) (table-append scope [] (take i rows) r h typed once)
 
 -- one line more
-pub lines-append : (scope : Scope) (rows : List Row) (earlier front : List Line) (line : Line) → AreRightLines scope rows earlier front → IsRightLine scope rows (earlier ++ front) line → AreRightLines scope rows earlier (front ++ line ∷ [])
+pub lines-append : (scope : Scope) (rows : List Row) (earlier front : List Line) (line : Line) → AreRightAfter scope rows earlier front → IsRightLine scope rows (earlier ++ front) line → AreRightAfter scope rows earlier (front ++ line ∷ [])
 lines-append scope rows earlier [] line h right = (subst (λ e. IsRightLine scope rows e line) (append-nil earlier) right, tt)
 lines-append scope rows earlier (l ∷ front) line h right =
     (h.0, lines-append scope rows (earlier ++ l ∷ []) front line h.1 (subst (λ e. IsRightLine scope rows e line) (sym (append_assoc earlier (l ∷ []) front)) right))
 
-pub lines-more : (scope : Scope) (rows : List Row) (lines : List Line) (i : ℕ) (line : Line) → slice_get lines i ≡ Some line → AreRightLines scope rows [] (take i lines) → IsRightLine scope rows (take i lines) line → AreRightLines scope rows [] (take (i + 1) lines)
+pub lines-more : (scope : Scope) (rows : List Row) (lines : List Line) (i : ℕ) (line : Line) → slice_get lines i ≡ Some line → AreRightAfter scope rows [] (take i lines) → IsRightLine scope rows (take i lines) line → AreRightAfter scope rows [] (take (i + 1) lines)
 lines-more scope rows lines i line at h right =
-    subst (AreRightLines scope rows []) (sym (take_got lines i line at)) (lines-append scope rows [] (take i lines) line h right)
+    subst (AreRightAfter scope rows []) (sym (take_got lines i line at)) (lines-append scope rows [] (take i lines) line h right)
 
 module _ (scope : Scope) (start : List Literal) (refutation : Refutation) where
   pub row_refused : (i : ℕ) (r : Row) (why : Why) → slice_get refutation.witnesses i ≡ Some r → IsTable scope (take i refutation.witnesses) → RowFails scope (take i refutation.witnesses) r why → FirstFailure scope start refutation i why
@@ -61,13 +61,13 @@ module _ (scope : Scope) (start : List Literal) (refutation : Refutation) where
       subst (λ n. FirstFailure scope start refutation n why) (length-front rows i r at)
       (at_row (take i rows) (drop (i + 1) rows) r why (split_at rows i r at) h fails)
 
-  pub line_refused : (n i : ℕ) (line : Line) (why : Why) → n ≡ length refutation.witnesses → slice_get refutation.lines i ≡ Some line → IsTable scope refutation.witnesses → AreRightLines (with_rows scope refutation.witnesses) refutation.witnesses [] (take i refutation.lines) → LineFails (with_rows scope refutation.witnesses) refutation.witnesses (take i refutation.lines) line why → FirstFailure scope start refutation (n + i) why
+  pub line_refused : (n i : ℕ) (line : Line) (why : Why) → n ≡ length refutation.witnesses → slice_get refutation.lines i ≡ Some line → IsTable scope refutation.witnesses → AreRightLines scope refutation.witnesses (take i refutation.lines) → LineFails (with_rows scope refutation.witnesses) refutation.witnesses (take i refutation.lines) line why → FirstFailure scope start refutation (n + i) why
   line_refused n i line why count at table h fails =
       let lines = refutation.lines in
       subst (λ k. FirstFailure scope start refutation k why) (ap₂ (λ x y. x + y) (sym count) (length-front lines i line at))
       (at_line (take i lines) (drop (i + 1) lines) line why table (split_at lines i line at) h fails)
 
-  module _ (n : ℕ) (is : n ≡ length refutation.witnesses) (table : IsTable scope refutation.witnesses) (right : AreRightLines (with_rows scope refutation.witnesses) refutation.witnesses [] refutation.lines) where
+  module _ (n : ℕ) (is : n ≡ length refutation.witnesses) (table : IsTable scope refutation.witnesses) (right : AreRightLines scope refutation.witnesses refutation.lines) where
     pub last_refused : (count : ℕ) (line : Line) → count ≡ length refutation.lines → 0 < count → slice_get refutation.lines (count - 1) ≡ Some line → (Within line.branch start → ⊥) → FirstFailure scope start refutation (n + (count - 1)) Last
     last_refused count line all some at outside =
         let lines = refutation.lines in

@@ -3,7 +3,7 @@ use Rattle.std.proofs.Common.{◌≡◌, ◌+◌, ℕ, List, [], ◌∷◌, ◌+
 use Rattle.stt_core.specs.Typing.{Scope}
 use Rattle.tableau_calculus.specs.Literals.{Literal}
 use Rattle.tableau_calculus.specs.Witnesses.{Row, with_rows, IsTypedRow, IsTwice, IsTableAfter, IsTable}
-use Rattle.tableau_calculus.specs.Accepted.{Within, AreChildren, IsRightLine, AreRightLines, IsAccepted, RowFails, LineFails, FirstFailure, at_row, at_line, at_last, no_line}
+use Rattle.tableau_calculus.specs.Accepted.{Within, AreChildren, IsRightLine, AreRightAfter, AreRightLines, IsAccepted, RowFails, LineFails, FirstFailure, at_row, at_line, at_last, no_line}
 use Rattle.tableau_calculus.specs.declared.refutation.Line.{Line}
 use Rattle.tableau_calculus.specs.declared.refutation.Refutation.{Refutation}
 use Rattle.tableau_calculus.specs.declared.refutation.Why.{Why}
@@ -33,7 +33,7 @@ table_at scope earlier [] back r h = subst (λ e. IsRightRow scope e r) (sym (ap
 table_at scope earlier (q ∷ front) back r h =
     subst (λ e. IsRightRow scope e r) (append_assoc earlier (q ∷ []) front) (table_at scope (earlier ++ q ∷ []) front back r h.2)
 
-pub lines_at : (scope : Scope) (rows : List Row) (earlier front back : List Line) (line : Line) → AreRightLines scope rows earlier (front ++ line ∷ back) → IsRightLine scope rows (earlier ++ front) line
+pub lines_at : (scope : Scope) (rows : List Row) (earlier front back : List Line) (line : Line) → AreRightAfter scope rows earlier (front ++ line ∷ back) → IsRightLine scope rows (earlier ++ front) line
 lines_at scope rows earlier [] back line h = subst (λ e. IsRightLine scope rows e line) (sym (append-nil earlier)) h.0
 lines_at scope rows earlier (l ∷ front) back line h =
     subst (λ e. IsRightLine scope rows e line) (append_assoc earlier (l ∷ []) front) (lines_at scope rows (earlier ++ l ∷ []) front back line h.1)
@@ -148,7 +148,7 @@ module _ (scope : Scope) (start : List Literal) (refutation : Refutation) where
       row_fails_not scope front r why fails (table_at scope [] front back r (subst (IsTable scope) is accepted.table))
   accepted_no_failure _ _ (at_line front back line why table is right fails) accepted =
       let rows = refutation.witnesses in
-      line_fails_not (with_rows scope rows) rows (same_row scope [] rows table) front line why fails (lines_at (with_rows scope rows) rows [] front back line (subst (AreRightLines (with_rows scope rows) rows []) is accepted.lines))
+      line_fails_not (with_rows scope rows) rows (same_row scope [] rows table) front line why fails (lines_at (with_rows scope rows) rows [] front back line (subst (AreRightLines scope rows) is accepted.lines))
   accepted_no_failure _ _ (at_last front line table is right outside) accepted =
       split_cases ⊥ front accepted.last.front [] [] line accepted.last.last (sym is ∙ accepted.last.are)
       (λ e same. outside (subst (λ l. Within l.branch start) (sym same) accepted.last.within))
@@ -160,10 +160,10 @@ module _ (scope : Scope) (start : List Literal) (refutation : Refutation) where
   row_not_table : (front back : List Row) (r : Row) (why : Why) (rows : List Row) → rows ≡ front ++ r ∷ back → RowFails scope front r why → IsTable scope rows → ⊥
   row_not_table front back r why rows is fails table = row_fails_not scope front r why fails (table_at scope [] front back r (subst (IsTable scope) is table))
 
-  line_not_right : IsTable scope refutation.witnesses → (front back : List Line) (line : Line) (why : Why) (lines : List Line) → lines ≡ front ++ line ∷ back → LineFails (with_rows scope refutation.witnesses) refutation.witnesses front line why → AreRightLines (with_rows scope refutation.witnesses) refutation.witnesses [] lines → ⊥
+  line_not_right : IsTable scope refutation.witnesses → (front back : List Line) (line : Line) (why : Why) (lines : List Line) → lines ≡ front ++ line ∷ back → LineFails (with_rows scope refutation.witnesses) refutation.witnesses front line why → AreRightLines scope refutation.witnesses lines → ⊥
   line_not_right table front back line why lines is fails right =
       let rows = refutation.witnesses in
-      line_fails_not (with_rows scope rows) rows (same_row scope [] rows table) front line why fails (lines_at (with_rows scope rows) rows [] front back line (subst (AreRightLines (with_rows scope rows) rows []) is right))
+      line_fails_not (with_rows scope rows) rows (same_row scope [] rows table) front line why fails (lines_at (with_rows scope rows) rows [] front back line (subst (AreRightLines scope rows) is right))
 
   -- a refutation has one first failure at most
   pub one_first_failure : (n k : ℕ) (why other : Why) → FirstFailure scope start refutation n why → FirstFailure scope start refutation k other → (n ≡ k) × (why ≡ other)

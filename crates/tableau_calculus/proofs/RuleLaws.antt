@@ -1,23 +1,23 @@
 -- Each rule keeps a model.
-use Rattle.std.proofs.Common.{◌≡◌, ℕ, zero, suc, ◌<◌, List, [], ◌∷◌, Some, slice_get, map, refl, sym, ap, ◌∙◌, true, nat_eq, if◌then◌else◌, ◌⊎◌, inl, inr, ⊎_elim, arith}
-use Rattle.stt_core.specs.SimpleType.{SimpleType, is_declared, base, arrow, formula}
-use Rattle.stt_core.specs.Lambda.{witness, Lambda, constant, imp, applied}
+use Rattle.std.proofs.Common.{◌≡◌, ℕ, zero, suc, ◌<◌, List, [], ◌∷◌, Some, slice_get, map, refl, sym, ap, ◌∙◌, true, if◌then◌else◌, ◌⊎◌, inl, inr, ⊎_elim, arith}
+use Rattle.stt_core.specs.SimpleType.{SimpleType, is_declared, base, formula}
+use Rattle.stt_core.specs.Lambda.{witness, Lambda, constant, applied}
 use Rattle.stt_core.specs.Typing.{Scope}
 use Rattle.stt_core.specs.Canonical.{IsCanonical}
 use Rattle.stt_core.specs.Meaning.{Model, value, IsModel}
 use Rattle.stt_core.proofs.TypeLaws.{type_of-canonical}
 use Rattle.stt_core.specs.Digits.{entry}
 use Rattle.stt_core.proofs.ValueLaws.{value-lt}
-use Rattle.stt_core.proofs.ConstantValues.{value-imp, bit}
+use Rattle.stt_core.proofs.ConstantValues.{bit}
 use Rattle.tableau_calculus.specs.Literals.{Literal, IsBranch}
 use Rattle.tableau_calculus.specs.Meets.{MeetsBranch, MeetsOne}
 use Rattle.tableau_calculus.specs.Witnesses.{Row}
 use Rattle.tableau_calculus.specs.Rules.{Rule, alone_rule, close_rule, all_pos_rule, all_neg_rule, mat_rule, dec_rule, con_rule, cho_rule, des_rule, cut_rule, nowhere, chosen, at_most_once, described, PlainRule}
-use Rattle.tableau_calculus.proofs.LiteralLaws.{imp_canonical, value-bit, as_literal-says, literal_or_opposite, not_both}
+use Rattle.tableau_calculus.proofs.LiteralLaws.{value-bit, as_literal-says, literal_or_opposite, not_both}
 use Rattle.normal_forms.specs.Normal.{eta, apply}
 use Rattle.normal_forms.proofs.NormalValues.{canonical-eta, value-eta}
 use Rattle.tableau_calculus.specs.Along.{GoesAlong}
-use Rattle.tableau_calculus.proofs.FunctionLaws.{every_canonical, canonical-agreement, canonical-nowhere, canonical-chosen, canonical-at_most_once, canonical-described, canonical-applied, value-applied, value-every-canonical, value-agreement, value-chosen, value-described}
+use Rattle.tableau_calculus.proofs.FunctionLaws.{every_canonical, canonical-nowhere, canonical-chosen, canonical-at_most_once, canonical-described, canonical-applied, value-applied, value-every-canonical, value-chosen, value-described}
 use Rattle.tableau_calculus.proofs.AloneLaws.{alone_keeps}
 use Rattle.tableau_calculus.proofs.DecompositionLaws.{arguments_taken, differ_one}
 use Rattle.tableau_calculus.proofs.EquationLaws.{eq_canonical, same_or_not, met-eq, met-differ, meets-differ}

@@ -16,7 +16,7 @@ use Rattle.tableau_calculus.proofs.AlongLaws.{extended_is_model, extended_along}
 
 module _ (scope : Scope) (start : List Literal) (refutation : Refutation) (accepted : IsAccepted scope start refutation) where
   -- the tableau of an accepted refutation closes the start
-  pub accepted_closes_start : Closes (with_rows scope refutation.witnesses) refutation.witnesses (tableau_of refutation) start
+  pub accepted_closes_start : Closes scope refutation.witnesses (tableau_of refutation) start
   accepted_closes_start = accepted_closes scope start refutation accepted start accepted.last.within
 
   -- no model meets a start that names no witness and for which a refutation is accepted

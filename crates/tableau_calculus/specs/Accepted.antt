@@ -53,9 +53,15 @@ pub record IsRightLine (scope : Scope) (rows : List Row) (earlier : List Line) (
   pub instance : IsInstance scope rows line.branch line.rule alternatives
   pub children : AreChildren earlier line.branch alternatives line.children
 
-abbrev pub AreRightLines : Scope → List Row → List Line → List Line → Type 0
-AreRightLines scope rows earlier [] = Unit {0}
-AreRightLines scope rows earlier (line ∷ lines) = IsRightLine scope rows earlier line × AreRightLines scope rows (earlier ++ line ∷ []) lines
+-- the lines are right behind the earlier ones
+abbrev pub AreRightAfter : Scope → List Row → List Line → List Line → Type 0
+AreRightAfter scope rows earlier [] = Unit {0}
+AreRightAfter scope rows earlier (line ∷ lines) =
+    IsRightLine scope rows earlier line × AreRightAfter scope rows (earlier ++ line ∷ []) lines
+
+-- the lines are right, over what is declared and the witnesses of these rows
+abbrev pub AreRightLines : Scope → List Row → List Line → Type 0
+AreRightLines scope rows lines = AreRightAfter (with_rows scope rows) rows [] lines
 
 -- the last line's branch is within the start
 pub record EndsWithin (start : List Literal) (lines : List Line) : Type 0 where
@@ -68,7 +74,7 @@ pub record EndsWithin (start : List Literal) (lines : List Line) : Type 0 where
 -- start.
 pub record IsAccepted (scope : Scope) (start : List Literal) (refutation : Refutation) : Type 0 where
   pub table : IsTable scope refutation.witnesses
-  pub lines : AreRightLines (with_rows scope refutation.witnesses) refutation.witnesses [] refutation.lines
+  pub lines : AreRightLines scope refutation.witnesses refutation.lines
   pub last : EndsWithin start refutation.lines
 
 -- why a row fails, of its causes the first
@@ -84,13 +90,33 @@ LineFails scope rows earlier line Principal =
     IsTypedLine scope line × ((alternatives : List (List Literal)) → IsInstance scope rows line.branch line.rule alternatives → ⊥)
 LineFails scope rows earlier line ChildWrong =
     IsTypedLine scope line
-    × ((alternatives : List (List Literal)) × IsInstance scope rows line.branch line.rule alternatives × (AreChildren earlier line.branch alternatives line.children → ⊥))
+    × ((alternatives : List (List Literal))
+            × IsInstance scope rows line.branch line.rule alternatives
+            × (AreChildren earlier line.branch alternatives line.children → ⊥))
 LineFails scope rows earlier line why = ⊥
 
 -- The first failure of a refutation. Places count the rows from 0 and then the lines, and the place behind them all stands for a line
 -- that isn't there.
 pub data FirstFailure (scope : Scope) (start : List Literal) (refutation : Refutation) : ℕ → Why → Type 0 where
-  at_row : (front back : List Row) (r : Row) (why : Why) → refutation.witnesses ≡ front ++ r ∷ back → IsTable scope front → RowFails scope front r why → FirstFailure scope start refutation (length front) why
-  at_line : (front back : List Line) (line : Line) (why : Why) → IsTable scope refutation.witnesses → refutation.lines ≡ front ++ line ∷ back → AreRightLines (with_rows scope refutation.witnesses) refutation.witnesses [] front → LineFails (with_rows scope refutation.witnesses) refutation.witnesses front line why → FirstFailure scope start refutation (length refutation.witnesses + length front) why
-  at_last : (front : List Line) (line : Line) → IsTable scope refutation.witnesses → refutation.lines ≡ front ++ line ∷ [] → AreRightLines (with_rows scope refutation.witnesses) refutation.witnesses [] refutation.lines → (Within line.branch start → ⊥) → FirstFailure scope start refutation (length refutation.witnesses + length front) Last
-  no_line : IsTable scope refutation.witnesses → refutation.lines ≡ [] → FirstFailure scope start refutation (length refutation.witnesses) Last
+  at_row :
+      (front back : List Row) (r : Row) (why : Why)
+      → refutation.witnesses ≡ front ++ r ∷ back
+      → IsTable scope front
+      → RowFails scope front r why
+      → FirstFailure scope start refutation (length front) why
+  at_line :
+      (front back : List Line) (line : Line) (why : Why)
+      → IsTable scope refutation.witnesses
+      → refutation.lines ≡ front ++ line ∷ back
+      → AreRightLines scope refutation.witnesses front
+      → LineFails (with_rows scope refutation.witnesses) refutation.witnesses front line why
+      → FirstFailure scope start refutation (length refutation.witnesses + length front) why
+  at_last :
+      (front : List Line) (line : Line)
+      → IsTable scope refutation.witnesses
+      → refutation.lines ≡ front ++ line ∷ []
+      → AreRightLines scope refutation.witnesses refutation.lines
+      → (Within line.branch start → ⊥)
+      → FirstFailure scope start refutation (length refutation.witnesses + length front) Last
+  no_line :
+      IsTable scope refutation.witnesses → refutation.lines ≡ [] → FirstFailure scope start refutation (length refutation.witnesses) Last

@@ -12,7 +12,13 @@ least_zero p (suc n) x = if nat_eq (entry 2 p x) 0 then x else least_zero p n (s
 
 -- the model with these values for the witnesses
 abbrev pub with_witnesses : Model → List ℕ → Model
-with_witnesses m values = record { sizes = m.sizes; name_values = m.name_values; witness_values = slice_index values; choices = m.choices; descriptions = m.descriptions }
+with_witnesses m values =
+    record {
+      sizes = m.sizes;
+      name_values = m.name_values;
+      witness_values = slice_index values;
+      choices = m.choices;
+      descriptions = m.descriptions }
 
 -- The values of the witnesses of further rows behind those that are there: each is the least one at which the row's predicate is 0, or
 -- 0. The scope has the witnesses of all rows.
@@ -27,7 +33,13 @@ extended scope m rows = with_witnesses m (witness_list (with_rows scope rows) m 
 
 -- at each witness its row's predicate is 0, where it is 0 somewhere
 pub record GoesAlong (scope : Scope) (m : Model) (rows : List Row) : Type 0 where
-  pub at_witness : (k : ℕ) (r : Row) → slice_get rows k ≡ Some r → (x : ℕ) → x < size m r.type → entry 2 (value scope m [] [] r.predicate) x ≡ 0 → entry 2 (value scope m [] [] r.predicate) (m.witness_values k) ≡ 0
+  pub at_witness :
+      (k : ℕ) (r : Row)
+      → slice_get rows k ≡ Some r
+      → (x : ℕ)
+      → x < size m r.type
+      → entry 2 (value scope m [] [] r.predicate) x ≡ 0
+      → entry 2 (value scope m [] [] r.predicate) (m.witness_values k) ≡ 0
 
 -- a model of the scope with the witnesses, which goes along the table
 pub record IsModelAlong (scope : Scope) (rows : List Row) (m : Model) : Type 0 where

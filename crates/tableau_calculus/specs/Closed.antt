@@ -2,7 +2,7 @@
 use Rattle.std.specs.Prelude.{ℕ, List, [], ◌∷◌, ◌++◌, Option, Some, None, slice_get, unwrap_or}
 use Rattle.stt_core.specs.Typing.{Scope}
 use Rattle.tableau_calculus.specs.Literals.{Literal}
-use Rattle.tableau_calculus.specs.Witnesses.{Row}
+use Rattle.tableau_calculus.specs.Witnesses.{Row, with_rows}
 use Rattle.tableau_calculus.specs.RuleUses.{principals_of}
 use Rattle.tableau_calculus.specs.Rules.{PlainRule, Rule}
 use Rattle.tableau_calculus.specs.Accepted.{Within, IsClosedBranch}
@@ -22,18 +22,25 @@ mutual
     more : Tableau → Tableaux → Tableaux
 
 abbrev mutual
-  -- the tableau closes the branch
-  pub Closes : Scope → List Row → Tableau → List Literal → Type 0
-  Closes scope rows leaf branch = IsClosedBranch branch
-  Closes scope rows (node rule principals children) branch =
-      (alternatives : List (List Literal)) × Rule scope rows rule principals alternatives × Within principals branch × CloseAll scope rows children alternatives branch
+  -- by rules over all that is declared, the tableau closes the branch
+  pub ClosesIn : Scope → List Row → Tableau → List Literal → Type 0
+  ClosesIn scope rows leaf branch = IsClosedBranch branch
+  ClosesIn scope rows (node rule principals children) branch =
+      (alternatives : List (List Literal))
+      × Rule scope rows rule principals alternatives
+      × Within principals branch
+      × CloseAll scope rows children alternatives branch
 
   -- each alternative has a tableau that closes the branch with it
   pub CloseAll : Scope → List Row → Tableaux → List (List Literal) → List Literal → Type 0
   CloseAll scope rows none [] branch = Unit {0}
   CloseAll scope rows none (a ∷ as') branch = ⊥
   CloseAll scope rows (more t ts) [] branch = ⊥
-  CloseAll scope rows (more t ts) (a ∷ as') branch = Closes scope rows t (a ++ branch) × CloseAll scope rows ts as' branch
+  CloseAll scope rows (more t ts) (a ∷ as') branch = ClosesIn scope rows t (a ++ branch) × CloseAll scope rows ts as' branch
+
+-- the tableau closes the branch, over what is declared and the witnesses of these rows
+abbrev pub Closes : Scope → List Row → Tableau → List Literal → Type 0
+Closes scope rows tableau branch = ClosesIn (with_rows scope rows) rows tableau branch
 
 -- the literals at these places, where the branch has them
 abbrev pub literals_at : List Literal → List ℕ → List Literal
@@ -56,7 +63,8 @@ tableau_of_line earlier line = node line.rule (literals_at line.branch (principa
 -- the tableau of the last line, where `last` and `earlier` have those of the lines before
 abbrev pub tableau_after : Tableau → List Tableau → List Line → Tableau
 tableau_after last earlier [] = last
-tableau_after last earlier (line ∷ lines) = tableau_after (tableau_of_line earlier line) (earlier ++ tableau_of_line earlier line ∷ []) lines
+tableau_after last earlier (line ∷ lines) =
+    tableau_after (tableau_of_line earlier line) (earlier ++ tableau_of_line earlier line ∷ []) lines
 
 -- the tableau of a refutation: that of its last line
 abbrev pub tableau_of : Refutation → Tableau

@@ -15,4 +15,10 @@ ModelsExtend scope rows = IsTable scope rows → (m : Model) → IsModel scope m
 -- where the types of what is declared are declared, a model along the rows that meets the principals of a rule meets one whole alternative
 abbrev pub RulesKeepModels : Scope → List Row → Type 0
 RulesKeepModels scope rows =
-    (m : Model) → IsModelAlong scope rows m → (rule : PlainRule) (principals : List Literal) (alternatives : List (List Literal)) → Rule (with_rows scope rows) rows rule principals alternatives → IsBranch (with_rows scope rows) principals → MeetsBranch (with_rows scope rows) m principals → MeetsOne (with_rows scope rows) m alternatives
+    (m : Model)
+    → IsModelAlong scope rows m
+    → (rule : PlainRule) (principals : List Literal) (alternatives : List (List Literal))
+    → Rule (with_rows scope rows) rows rule principals alternatives
+    → IsBranch (with_rows scope rows) principals
+    → MeetsBranch (with_rows scope rows) m principals
+    → MeetsOne (with_rows scope rows) m alternatives

@@ -17,7 +17,8 @@ option_both f (Some a) b = option_map (f a) b
 option_both f None b = None
 
 -- the use with its parts mapped, where each part has an image
-abbrev pub map_use_option : {P P' T T' L L' : Type 0} → (P → Option P') → (T → Option T') → (L → Option L') → RuleUse P T L → Option (RuleUse P' T' L')
+abbrev pub map_use_option :
+    {P P' T T' L L' : Type 0} → (P → Option P') → (T → Option T') → (L → Option L') → RuleUse P T L → Option (RuleUse P' T' L')
 map_use_option p t l (AtOne kind i) = option_map (AtOne kind) (p i)
 map_use_option p t l (AtTwo kind i j) = option_both (AtTwo kind) (p i) (p j)
 map_use_option p t l (AllPos i u) = option_both AllPos (p i) (t u)

@@ -177,7 +177,8 @@ AreAt branch (i ∷ is) [] = ⊥
 AreAt branch (i ∷ is) (l ∷ ls) = (slice_get branch i ≡ Some l) × AreAt branch is ls
 
 -- an instance of the rule, whose principals stand at its places in the branch
-pub record IsInstance (scope : Scope) (rows : List Row) (branch : List Literal) (rule : PlainRule) (alternatives : List (List Literal)) : Type 0 where
+pub record IsInstance (scope : Scope) (rows : List Row) (branch : List Literal) (rule : PlainRule) (alternatives : List (List Literal)) :
+    Type 0 where
   pub principals : List Literal
   pub at_places : AreAt branch (principals_of rule) principals
   pub fits : Rule scope rows rule principals alternatives

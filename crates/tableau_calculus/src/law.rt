@@ -10,7 +10,7 @@ ghost use Rattle.stt_core.specs.Meets.{MeetsProblem};
 ghost use Rattle.tableau_calculus.specs.Literals.{IsBranch};
 ghost use Rattle.tableau_calculus.specs.Meets.{MeetsBranch};
 ghost use Rattle.tableau_calculus.specs.Start.{start};
-ghost use Rattle.tableau_calculus.specs.Witnesses.{with_rows, NoneNamesWitness};
+ghost use Rattle.tableau_calculus.specs.Witnesses.{NoneNamesWitness};
 ghost use Rattle.tableau_calculus.specs.Accepted.{IsAccepted};
 ghost use Rattle.tableau_calculus.specs.Laws.{ModelsExtend, RulesKeepModels};
 ghost use Rattle.tableau_calculus.specs.Closed.{Closes, tableau_of};
@@ -32,7 +32,7 @@ pub fn start_keeps_models(problem: &Problem)
 pub fn soundness_law(sig: &Signature, start: &Lits, refutation: &Refutation)
     requires { NoneNamesWitness start.now }
     ensures no_model { IsAccepted (the_scope sig.now []) start.now refutation.now → (m : Model) → IsModel (the_scope sig.now []) m → MeetsBranch (the_scope sig.now []) m start.now → ⊥ }
-    ensures closed { IsAccepted (the_scope sig.now []) start.now refutation.now → Closes (with_rows (the_scope sig.now []) refutation.now.witnesses) refutation.now.witnesses (tableau_of refutation.now) start.now }
+    ensures closed { IsAccepted (the_scope sig.now []) start.now refutation.now → Closes (the_scope sig.now []) refutation.now.witnesses (tableau_of refutation.now) start.now }
 {}
 
 /// Every model of a signature extends along a witness table: the value of a witness is the least at which its predicate doesn't hold,

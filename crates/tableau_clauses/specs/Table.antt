@@ -42,7 +42,8 @@ start_units (s ∷ steps) = units_in s.0 s.1 ++ start_units steps
 -- the clause comes from there: a start unit is one literal, and another clause is one of its instance's
 abbrev pub ComesFromOrigin : List Instance → List SatLit → Origin → Type 0
 ComesFromOrigin instances clause Start = (l : SatLit) × (clause ≡ l ∷ [])
-ComesFromOrigin instances clause (From k) = (i : Instance) × (slice_get instances k ≡ Some i) × Contains (instance_clauses numbers i.principals i.alternatives) clause
+ComesFromOrigin instances clause (From k) =
+    (i : Instance) × (slice_get instances k ≡ Some i) × Contains (instance_clauses numbers i.principals i.alternatives) clause
 
 -- each clause comes from where it is said to come from
 abbrev pub EachComes : Table → Type 0

@@ -37,13 +37,15 @@ no_literal = record { var = record { 0 = 0 }; positive = false }
 -- a clause of this origin
 abbrev pub sourced : List Lambda → List ℕ → List BankInstance → List SatLit → Origin → Sourced
 sourced terms atoms instances clause Start = start_unit (get_or clause 0 no_literal)
-sourced terms atoms instances clause (From k) = clause_by clause (unwrap_or (option_map (the_instance terms atoms) (slice_get instances k)) no_instance)
+sourced terms atoms instances clause (From k) =
+    clause_by clause (unwrap_or (option_map (the_instance terms atoms) (slice_get instances k)) no_instance)
 
 abbrev pub the_sources : List Lambda → List ℕ → Table → List Sourced
 the_sources terms atoms t = map (λ s. sourced terms atoms t.1 s.0 s.1) t.0
 
 abbrev pub the_input : Content → List ℕ → Table → List LogEntry → List ℕ → Input
-the_input b atoms t log witnesses = record { atoms = atoms_at b.terms atoms; rows = rows_of b.terms witnesses; clauses = the_sources b.terms atoms t; log = log }
+the_input b atoms t log witnesses =
+    record { atoms = atoms_at b.terms atoms; rows = rows_of b.terms witnesses; clauses = the_sources b.terms atoms t; log = log }
 
 -- the literals of a clause of the start, and of another one none
 abbrev pub start_literals_in : List Lambda → List SatLit → Origin → List Literal

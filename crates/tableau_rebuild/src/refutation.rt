@@ -1,7 +1,6 @@
 //! The refutation of a log.
 ghost use Rattle.std.specs.Prelude.{◌≡◌, ◌<◌, length, take, Contains, IfOk, All};
 ghost use Rattle.sat_log.specs.Chains.{IsLogOver};
-ghost use Rattle.tableau_calculus.specs.Witnesses.{with_rows};
 ghost use Rattle.tableau_calculus.specs.Accepted.{IsAccepted};
 ghost use Rattle.tableau_calculus.specs.Closed.{Closes, tableau_of};
 ghost use Rattle.tableau_calculus.specs.declared.refutation.Line.{Line};
@@ -119,7 +118,7 @@ pub fn rebuild_shared(
     requires closed { EndsEmpty log.now }
     ensures rebuilt { IfOk result (λ refutation. IsRebuilt (the_input bank.now lits.now steps.now log.now witnesses.now) refutation) }
     ensures accepted { IfOk result (λ refutation. IsAccepted (content_scope bank.now) (unit_literals (atoms_at bank.now.terms lits.now) steps.now.0) refutation) }
-    ensures closed { IfOk result (λ refutation. Closes (with_rows (content_scope bank.now) refutation.witnesses) refutation.witnesses (tableau_of refutation) (unit_literals (atoms_at bank.now.terms lits.now) steps.now.0)) }
+    ensures closed { IfOk result (λ refutation. Closes (content_scope bank.now) refutation.witnesses (tableau_of refutation) (unit_literals (atoms_at bank.now.terms lits.now) steps.now.0)) }
     ensures reached { IfOk result (λ refutation. IsEachReached refutation.lines) }
     ensures from_search { IfOk result (λ refutation. (l : Line) → Contains refutation.lines l → IsFromSearch (unit_literals (atoms_at bank.now.terms lits.now) steps.now.0) (the_input bank.now lits.now steps.now log.now witnesses.now) l) }
     ensures few { IfOk result (λ refutation. AreFew log.now refutation.lines) }
@@ -148,7 +147,7 @@ pub fn rebuild(
     requires closed { EndsEmpty log.now }
     ensures rebuilt { IfOk result (λ refutation. IsRebuilt (the_input bank.now lits.now steps.now log.now witnesses.now) refutation) }
     ensures accepted { IfOk result (λ refutation. IsAccepted (content_scope bank.now) (unit_literals (atoms_at bank.now.terms lits.now) steps.now.0) refutation) }
-    ensures closed { IfOk result (λ refutation. Closes (with_rows (content_scope bank.now) refutation.witnesses) refutation.witnesses (tableau_of refutation) (unit_literals (atoms_at bank.now.terms lits.now) steps.now.0)) }
+    ensures closed { IfOk result (λ refutation. Closes (content_scope bank.now) refutation.witnesses (tableau_of refutation) (unit_literals (atoms_at bank.now.terms lits.now) steps.now.0)) }
     ensures reached { IfOk result (λ refutation. IsEachReached refutation.lines) }
     ensures from_search { IfOk result (λ refutation. (l : Line) → Contains refutation.lines l → IsFromSearch (unit_literals (atoms_at bank.now.terms lits.now) steps.now.0) (the_input bank.now lits.now steps.now log.now witnesses.now) l) }
     ensures few { IfOk result (λ refutation. AreFew log.now refutation.lines) }

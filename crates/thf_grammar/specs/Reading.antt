@@ -12,7 +12,11 @@ token_at kind from to = record { kind = kind; from = from; to = to }
 -- longest token is taken, and the reading ends at the end or at the first byte that begins nothing.
 pub data Reads : ℕ → List ℕ → List Token → Type 0 where
   gap : (at n : ℕ) (rest : List ℕ) (later : List Token) → IsLongestGap rest n → Reads (at + n) (drop n rest) later → Reads at rest later
-  token : (kind : TokenKind) (at n : ℕ) (rest : List ℕ) (later : List Token) → IsLongestToken kind rest n → Reads (at + n) (drop n rest) later → Reads at rest (token_at kind at (at + n) ∷ later)
+  token :
+      (kind : TokenKind) (at n : ℕ) (rest : List ℕ) (later : List Token)
+      → IsLongestToken kind rest n
+      → Reads (at + n) (drop n rest) later
+      → Reads at rest (token_at kind at (at + n) ∷ later)
   bad : (at byte : ℕ) (rest : List ℕ) → BeginsNothing (byte ∷ rest) → Reads at (byte ∷ rest) (token_at Bad at (at + 1) ∷ [])
   end : (at : ℕ) → Reads at [] (token_at End at at ∷ [])
 

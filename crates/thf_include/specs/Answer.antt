@@ -26,7 +26,8 @@ StopsAs Q E names Memory = E ⊎ Q (wants (length names - 1))
 
 -- the answer is how the gathering over these texts ends
 abbrev pub IsGatherAnswer : List (List ℕ) → List ℕ → List (List ℕ) → Result (List Placed) GatherRefused → Type 0
-IsGatherAnswer texts name names (Ok gathered) = IsGathering texts name names (done (the_statements gathered)) × (length texts ≡ length names)
+IsGatherAnswer texts name names (Ok gathered) =
+    IsGathering texts name names (done (the_statements gathered)) × (length texts ≡ length names)
 IsGatherAnswer texts name names (Err refused) = StopsAs (λ why. IsGathering texts name names (stopped why)) (names ≡ []) names refused
 
 -- the answer is how the gathering ends over some texts, which are the contents of its files where these are told

@@ -73,24 +73,69 @@ select file (Some only) statements = select_by (find (is_missing statements) onl
 mutual
   -- from the file with this number and this name
   pub data FileEnds (texts : List (List ℕ)) : List (List ℕ) → ℕ → List ℕ → List (List ℕ) → Ending → Type 0 where
-    unread : (chain : List (List ℕ)) (file : ℕ) (name : List ℕ) → length texts ≤ file → FileEnds texts chain file name (name ∷ []) (stopped (wants file))
-    long : (chain : List (List ℕ)) (file : ℕ) (name : List ℕ) → file < length texts → byte_limit < bytes_of texts (file + 1) → FileEnds texts chain file name (name ∷ []) (stopped (too_long file))
-    refused : (chain : List (List ℕ)) (file at : ℕ) (name text : List ℕ) → slice_get texts file ≡ Some text → bytes_of texts (file + 1) ≤ byte_limit → IsWrongText text at → FileEnds texts chain file name (name ∷ []) (stopped (no_tree file at))
-    followed : (chain opened : List (List ℕ)) (file : ℕ) (name text : List ℕ) (tree : List StatementTree) (ending : Ending) → slice_get texts file ≡ Some text → bytes_of texts (file + 1) ≤ byte_limit → IsFileText text tree → StatementsEnd texts (name ∷ chain) file (file + 1) tree opened ending → FileEnds texts chain file name (name ∷ opened) ending
+    unread :
+        (chain : List (List ℕ)) (file : ℕ) (name : List ℕ)
+        → length texts ≤ file
+        → FileEnds texts chain file name (name ∷ []) (stopped (wants file))
+    long :
+        (chain : List (List ℕ)) (file : ℕ) (name : List ℕ)
+        → file < length texts
+        → byte_limit < bytes_of texts (file + 1)
+        → FileEnds texts chain file name (name ∷ []) (stopped (too_long file))
+    refused :
+        (chain : List (List ℕ)) (file at : ℕ) (name text : List ℕ)
+        → slice_get texts file ≡ Some text
+        → bytes_of texts (file + 1) ≤ byte_limit
+        → IsWrongText text at
+        → FileEnds texts chain file name (name ∷ []) (stopped (no_tree file at))
+    followed :
+        (chain opened : List (List ℕ)) (file : ℕ) (name text : List ℕ) (tree : List StatementTree) (ending : Ending)
+        → slice_get texts file ≡ Some text
+        → bytes_of texts (file + 1) ≤ byte_limit
+        → IsFileText text tree
+        → StatementsEnd texts (name ∷ chain) file (file + 1) tree opened ending
+        → FileEnds texts chain file name (name ∷ opened) ending
 
   -- from a statement of the file with the first number, where the next file that is opened has the second
   pub data StatementEnds (texts : List (List ℕ)) : List (List ℕ) → ℕ → ℕ → StatementTree → List (List ℕ) → Ending → Type 0 where
-    stays : (chain : List (List ℕ)) (file next : ℕ) (a : AnnotatedTree) → StatementEnds texts chain file next (annotated a) [] (done (placed_statement file a ∷ []))
-    in_cycle : (chain : List (List ℕ)) (file next at : ℕ) (name : List ℕ) (only : Option (List SelectedTree)) → Contains chain name → StatementEnds texts chain file next (include at name only) [] (stopped (cycle file at))
-    past_limit : (chain : List (List ℕ)) (file next at : ℕ) (name : List ℕ) (only : Option (List SelectedTree)) → (Contains chain name → ⊥) → file_limit ≤ next → StatementEnds texts chain file next (include at name only) [] (stopped (too_many file at))
-    stops : (chain opened : List (List ℕ)) (file next at : ℕ) (name : List ℕ) (only : Option (List SelectedTree)) (why : Stop) → (Contains chain name → ⊥) → next < file_limit → FileEnds texts chain next name opened (stopped why) → StatementEnds texts chain file next (include at name only) opened (stopped why)
-    selects : (chain opened : List (List ℕ)) (file next at : ℕ) (name : List ℕ) (only : Option (List SelectedTree)) (statements : List PlacedTree) → (Contains chain name → ⊥) → next < file_limit → FileEnds texts chain next name opened (done statements) → StatementEnds texts chain file next (include at name only) opened (select file only statements)
+    stays :
+        (chain : List (List ℕ)) (file next : ℕ) (a : AnnotatedTree)
+        → StatementEnds texts chain file next (annotated a) [] (done (placed_statement file a ∷ []))
+    in_cycle :
+        (chain : List (List ℕ)) (file next at : ℕ) (name : List ℕ) (only : Option (List SelectedTree))
+        → Contains chain name
+        → StatementEnds texts chain file next (include at name only) [] (stopped (cycle file at))
+    past_limit :
+        (chain : List (List ℕ)) (file next at : ℕ) (name : List ℕ) (only : Option (List SelectedTree))
+        → (Contains chain name → ⊥)
+        → file_limit ≤ next
+        → StatementEnds texts chain file next (include at name only) [] (stopped (too_many file at))
+    stops :
+        (chain opened : List (List ℕ)) (file next at : ℕ) (name : List ℕ) (only : Option (List SelectedTree)) (why : Stop)
+        → (Contains chain name → ⊥)
+        → next < file_limit
+        → FileEnds texts chain next name opened (stopped why)
+        → StatementEnds texts chain file next (include at name only) opened (stopped why)
+    selects :
+        (chain opened : List (List ℕ)) (file next at : ℕ) (name : List ℕ) (only : Option (List SelectedTree)) (statements : List PlacedTree)
+        → (Contains chain name → ⊥)
+        → next < file_limit
+        → FileEnds texts chain next name opened (done statements)
+        → StatementEnds texts chain file next (include at name only) opened (select file only statements)
 
   -- from statements in their order
   pub data StatementsEnd (texts : List (List ℕ)) : List (List ℕ) → ℕ → ℕ → List StatementTree → List (List ℕ) → Ending → Type 0 where
     no_more : (chain : List (List ℕ)) (file next : ℕ) → StatementsEnd texts chain file next [] [] (done [])
-    ends : (chain opened : List (List ℕ)) (file next : ℕ) (s : StatementTree) (later : List StatementTree) (why : Stop) → StatementEnds texts chain file next s opened (stopped why) → StatementsEnd texts chain file next (s ∷ later) opened (stopped why)
-    goes_on : (chain opened others : List (List ℕ)) (file next : ℕ) (s : StatementTree) (later : List StatementTree) (front : List PlacedTree) (ending : Ending) → StatementEnds texts chain file next s opened (done front) → StatementsEnd texts chain file (next + length opened) later others ending → StatementsEnd texts chain file next (s ∷ later) (opened ++ others) (behind_statements front ending)
+    ends :
+        (chain opened : List (List ℕ)) (file next : ℕ) (s : StatementTree) (later : List StatementTree) (why : Stop)
+        → StatementEnds texts chain file next s opened (stopped why)
+        → StatementsEnd texts chain file next (s ∷ later) opened (stopped why)
+    goes_on :
+        (chain opened others : List (List ℕ)) (file next : ℕ) (s : StatementTree) (later : List StatementTree) (front : List PlacedTree)
+            (ending : Ending)
+        → StatementEnds texts chain file next s opened (done front)
+        → StatementsEnd texts chain file (next + length opened) later others ending
+        → StatementsEnd texts chain file next (s ∷ later) (opened ++ others) (behind_statements front ending)
 
 -- the gathering from the file of this name opens the files of these names, in their order, and ends so
 abbrev pub IsGathering : List (List ℕ) → List ℕ → List (List ℕ) → Ending → Type 0

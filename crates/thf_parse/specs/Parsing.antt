@@ -32,11 +32,17 @@ pub record BeginsFile (ts : List Lexeme) : Type 0 where
 
 -- in every file that begins with the tokens, none of them is deeper than the limit
 abbrev pub StayWithin : ℕ → List Lexeme → Type 0
-StayWithin limit ts = (words more : List Word) (tree : List StatementTree) → plain words ≡ ts → IsFile (words ++ more) tree → AreWithinDepth limit words
+StayWithin limit ts =
+    (words more : List Word) (tree : List StatementTree) → plain words ≡ ts → IsFile (words ++ more) tree → AreWithinDepth limit words
 
 -- in every file that begins with the tokens in front and this one, it is deeper than the limit
 abbrev pub GoesBeyond : ℕ → List Lexeme → Lexeme → Type 0
-GoesBeyond limit front token = (before more : List Word) (w : Word) (tree : List StatementTree) → plain before ≡ front → w.lexeme ≡ token → IsFile (before ++ w ∷ more) tree → limit < w.depth
+GoesBeyond limit front token =
+    (before more : List Word) (w : Word) (tree : List StatementTree)
+    → plain before ≡ front
+    → w.lexeme ≡ token
+    → IsFile (before ++ w ∷ more) tree
+    → limit < w.depth
 
 -- the token at the place is wrong: a file begins with the tokens before it, and none with those up to and including it
 pub record IsWrongAt (limit : ℕ) (ts : List Lexeme) (at : ℕ) : Type 0 where

@@ -3,7 +3,7 @@ use Rattle.std.proofs.Common.{ℕ, Bool, true, false, List, [], ◌∷◌, Optio
 use Rattle.std.specs.Prelude.{option_to_list, option_and_then}
 use Rattle.stt_core.specs.Lambda.{Constant, name, equality, Lambda, bound, constant, lam, app}
 use Rattle.delta_defs.specs.Definitions.{Definition, meant, unfolded}
-use Rattle.delta_defs.specs.Unfolding.{stated, in_terms_of, may_follow, if_it_may_follow, taken_from, with_next, taken_after, unless_taken, left_after, definitions_of, left_formulas, unfolded_problem}
+use Rattle.delta_defs.specs.Unfolding.{stated, in_terms_of, may_follow, if_it_may_follow, taken_from, with_next, taken_after, unless_taken, left_after, definitions_of, left_formulas}
 use Rattle.tableau_calculus.specs.Each.{Each}
 use Rattle.search_spec.proofs.NamingLaws.{each-joined, pick_good}
 use Rattle.search_spec.proofs.TypedPushes.{each_mapped}

@@ -70,7 +70,12 @@ pub record IsModestSetting (limit : ℕ) (setting : Setting) : Type 0 where
 -- the types of every state of a run nest no deeper than those of the start and of the names
 abbrev pub RunsKeepTypes : Type 0
 RunsKeepTypes =
-    (limit : ℕ) (setting : Setting) (start : List Literal) → IsModestSetting limit setting → Each (IsModestLiteral limit) start → (n : ℕ) (s : State) → state_after setting start n ≡ Some s → IsModestState limit s
+    (limit : ℕ) (setting : Setting) (start : List Literal)
+    → IsModestSetting limit setting
+    → Each (IsModestLiteral limit) start
+    → (n : ℕ) (s : State)
+    → state_after setting start n ≡ Some s
+    → IsModestState limit s
 
 -- a problem's names, and the types in its formulas
 abbrev pub IsModestIfAny : ℕ → Option Lambda → Type 0

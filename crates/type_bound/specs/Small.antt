@@ -29,4 +29,9 @@ pub record StateHasSmallTerms (s : State) : Type 0 where
 -- where the types of the names and of the start nest at most 1,024 deep, each state of the run has terms that are small enough for a text
 abbrev pub RunsStaySmall : Type 0
 RunsStaySmall =
-    (setting : Setting) (start : List Literal) → IsModestSetting 1024 setting → Each (IsModestLiteral 1024) start → (n : ℕ) (s : State) → state_after setting start n ≡ Some s → StateHasSmallTerms s
+    (setting : Setting) (start : List Literal)
+    → IsModestSetting 1024 setting
+    → Each (IsModestLiteral 1024) start
+    → (n : ℕ) (s : State)
+    → state_after setting start n ≡ Some s
+    → StateHasSmallTerms s

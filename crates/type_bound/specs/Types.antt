@@ -24,4 +24,8 @@ AreShallowTypes limit (a ∷ ctx) = (nesting a ≤ limit) × AreShallowTypes lim
 
 -- the normal form of a term has types within a limit within which those of the term are
 abbrev pub NormalFormsKeepTypes : Type 0
-NormalFormsKeepTypes = (limit : ℕ) (scope : Scope) (ctx : List SimpleType) (t : Lambda) → AreShallowTypes limit ctx → HasShallowTypes limit scope t → HasShallowTypes limit scope (normal_form scope ctx t)
+NormalFormsKeepTypes =
+    (limit : ℕ) (scope : Scope) (ctx : List SimpleType) (t : Lambda)
+    → AreShallowTypes limit ctx
+    → HasShallowTypes limit scope t
+    → HasShallowTypes limit scope (normal_form scope ctx t)

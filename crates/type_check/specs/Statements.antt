@@ -18,7 +18,9 @@ use Rattle.type_check.specs.declared.refusal.IllWhy.TheVariants.{Twice, NotFormu
 
 -- the roles (TPTP)
 abbrev pub roles : List (List ℕ)
-roles = codes "type" ∷ codes "conjecture" ∷ codes "axiom" ∷ codes "hypothesis" ∷ codes "definition" ∷ codes "assumption" ∷ codes "lemma" ∷ codes "theorem" ∷ codes "corollary" ∷ codes "plain" ∷ codes "negated_conjecture" ∷ []
+roles =
+    codes "type" ∷ codes "conjecture" ∷ codes "axiom" ∷ codes "hypothesis" ∷ codes "definition" ∷ codes "assumption" ∷ codes "lemma"
+    ∷ codes "theorem" ∷ codes "corollary" ∷ codes "plain" ∷ codes "negated_conjecture" ∷ []
 
 abbrev pub is_role : List ℕ → Bool
 is_role role = list_any (bytes_eq role) roles
@@ -53,13 +55,24 @@ read_formula d tree = do
 
 -- one more base type, constant or formula
 abbrev pub with_base : List ℕ → PlainProblem → PlainProblem
-with_base name p = record { declared = record { bases = p.declared.bases ++ name ∷ []; consts = p.declared.consts }; assumed = p.assumed; marked = p.marked; conjecture = p.conjecture }
+with_base name p =
+    record {
+      declared = record { bases = p.declared.bases ++ name ∷ []; consts = p.declared.consts };
+      assumed = p.assumed;
+      marked = p.marked;
+      conjecture = p.conjecture }
 
 abbrev pub with_const : List ℕ → SimpleType → PlainProblem → PlainProblem
-with_const name a p = record { declared = record { bases = p.declared.bases; consts = p.declared.consts ++ record { name = name; type = a } ∷ [] }; assumed = p.assumed; marked = p.marked; conjecture = p.conjecture }
+with_const name a p =
+    record {
+      declared = record { bases = p.declared.bases; consts = p.declared.consts ++ record { name = name; type = a } ∷ [] };
+      assumed = p.assumed;
+      marked = p.marked;
+      conjecture = p.conjecture }
 
 abbrev pub with_assumed : Bool → Lambda → PlainProblem → PlainProblem
-with_assumed mark t p = record { declared = p.declared; assumed = p.assumed ++ t ∷ []; marked = p.marked ++ mark ∷ []; conjecture = p.conjecture }
+with_assumed mark t p =
+    record { declared = p.declared; assumed = p.assumed ++ t ∷ []; marked = p.marked ++ mark ∷ []; conjecture = p.conjecture }
 
 abbrev pub with_conjecture : Lambda → PlainProblem → PlainProblem
 with_conjecture t p = record { declared = p.declared; assumed = p.assumed; marked = p.marked; conjecture = Some t }

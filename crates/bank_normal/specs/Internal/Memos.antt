@@ -24,7 +24,8 @@ known_variable e = record { type = binder_type (the_shape e.0); result = e.1 }
 
 -- by which such values are told apart
 abbrev pub known_variable_code : Coded KnownVariable
-known_variable_code = code_by (SimpleType × ℕ) (coded× type_code coded_ℕ) (λ k. (k.type, k.result)) (λ p. record { type = p.0; result = p.1 }) (λ _. refl)
+known_variable_code =
+    code_by (SimpleType × ℕ) (coded× type_code coded_ℕ) (λ k. (k.type, k.result)) (λ p. record { type = p.0; result = p.1 }) (λ _. refl)
 
 -- of what the new list has, only this isn't in the old one
 abbrev pub KnowsOnly : {A : Type 0} → List A → List A → A → Type 0

@@ -44,4 +44,5 @@ LeavesWaiting terms task old new = (new ≡ old) ⊎ AddsParts terms task (old +
 
 -- a term of the bank can be put for the variable of the task
 abbrev pub ReplacesTask : Content → ℕ → Task → Type 0
-ReplacesTask b arg task = (task.id < length b.terms) × ReplacesIn (content_scope b) task.depth (term_at b.terms arg) (term_at b.terms task.id)
+ReplacesTask b arg task =
+    (task.id < length b.terms) × ReplacesIn (content_scope b) task.depth (term_at b.terms arg) (term_at b.terms task.id)

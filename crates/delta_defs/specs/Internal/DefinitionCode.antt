@@ -6,4 +6,5 @@ use Rattle.stt_core.specs.Internal.LambdaCode.{lambda_code}
 use Rattle.delta_defs.specs.Definitions.{Definition}
 
 abbrev pub definition_code : Coded Definition
-definition_code = code_by (ℕ × Lambda) (coded× coded_ℕ lambda_code) (λ d. (d.place, d.term)) (λ p. record { place = p.0; term = p.1 }) (λ _. refl)
+definition_code =
+    code_by (ℕ × Lambda) (coded× coded_ℕ lambda_code) (λ d. (d.place, d.term)) (λ p. record { place = p.0; term = p.1 }) (λ _. refl)

@@ -36,7 +36,10 @@ pub record IsEarlier (ws vs : List ℕ) : Type 0 where
 -- from a place on, each value is the least allowed one
 abbrev pub AreLeastFrom : ℕ → List (List Bool) → List ℕ → Type 0
 AreLeastFrom from ds vs =
-    (i : ℕ) (d : List Bool) → from ≤ i → slice_get ds i ≡ Some d → IsAllowed d (slice_index vs i) × ((v : ℕ) → IsAllowed d v → slice_index vs i ≤ v)
+    (i : ℕ) (d : List Bool)
+    → from ≤ i
+    → slice_get ds i ≡ Some d
+    → IsAllowed d (slice_index vs i) × ((v : ℕ) → IsAllowed d v → slice_index vs i ≤ v)
 
 -- how many lists there are
 abbrev pub lists : List (List Bool) → ℕ

@@ -70,11 +70,17 @@ pub record CanCompileSpine (scope : Scope) (s : ℕ) (ys : List Symbol) (ctx : L
 
 -- The expression stands for the term: it can be evaluated, and it is worth the term's value in the model of each candidate.
 pub record StandsForTerm (scope : Scope) (s : ℕ) (ys : List Symbol) (ctx : List SimpleType) (t : Lambda) (e : Expr) : Type 0 where
-  pub safe : (vs env : List ℕ) → IsCandidate s (symbols_with scope ys) vs → Fits (model_of s (symbols_with scope ys) vs) ctx env → IsSafe e vs env
-  pub is : (vs env : List ℕ) → IsCandidate s (symbols_with scope ys) vs → Fits (model_of s (symbols_with scope ys) vs) ctx env → worth e vs env ≡ value scope (model_of s (symbols_with scope ys) vs) ctx env t
+  pub safe :
+      (vs env : List ℕ) → IsCandidate s (symbols_with scope ys) vs → Fits (model_of s (symbols_with scope ys) vs) ctx env → IsSafe e vs env
+  pub is :
+      (vs env : List ℕ)
+      → IsCandidate s (symbols_with scope ys) vs
+      → Fits (model_of s (symbols_with scope ys) vs) ctx env
+      → worth e vs env ≡ value scope (model_of s (symbols_with scope ys) vs) ctx env t
 
 -- a head with its first i arguments has this type and this expression
-pub record HasCompiled (scope : Scope) (s : ℕ) (ys : List Symbol) (ctx : List SimpleType) (a : SimpleType) (h : Lambda) (us : List Lambda) (i : ℕ) (e : Expr) : Type 0 where
+pub record HasCompiled (scope : Scope) (s : ℕ) (ys : List Symbol) (ctx : List SimpleType) (a : SimpleType) (h : Lambda) (us : List Lambda)
+    (i : ℕ) (e : Expr) : Type 0 where
   pub within : i ≤ length us
   pub neutral : IsNeutral scope ctx a (applied h (take i us))
   pub small : IsSmallType s a

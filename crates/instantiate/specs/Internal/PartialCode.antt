@@ -41,13 +41,17 @@ abbrev pub top_partial : List Partial → Partial
 top_partial [] = hole 0
 top_partial (p ∷ stack) = p
 
-pub read-partial_labels : (p : Partial) (rest : List PartialLabel) (stack : List Partial) → read_partial_labels (partial_labels p rest) stack ≡ read_partial_labels rest (p ∷ stack)
+pub read-partial_labels :
+    (p : Partial) (rest : List PartialLabel) (stack : List Partial)
+    → read_partial_labels (partial_labels p rest) stack ≡ read_partial_labels rest (p ∷ stack)
 read-partial_labels (hole n) rest stack = refl
 read-partial_labels (head h) rest stack = refl
 read-partial_labels (function a p) rest stack = read-partial_labels p ((2, (0, (a, bound 0))) ∷ rest) stack
 read-partial_labels (application p q) rest stack =
-    read-partial_labels p (partial_labels q ((3, (0, (formula, bound 0))) ∷ rest)) stack ∙ read-partial_labels q ((3, (0, (formula, bound 0))) ∷ rest) (p ∷ stack)
+    read-partial_labels p (partial_labels q ((3, (0, (formula, bound 0))) ∷ rest)) stack
+        ∙ read-partial_labels q ((3, (0, (formula, bound 0))) ∷ rest) (p ∷ stack)
 
 abbrev pub partial_code : Coded Partial
 partial_code =
-    code_by (List PartialLabel) (coded_list (coded× coded_ℕ (coded× coded_ℕ (coded× type_code lambda_code)))) (λ p. partial_labels p []) (λ ns. top_partial (read_partial_labels ns [])) (λ p. ap top_partial (read-partial_labels p [] []))
+    code_by (List PartialLabel) (coded_list (coded× coded_ℕ (coded× coded_ℕ (coded× type_code lambda_code)))) (λ p. partial_labels p [])
+        (λ ns. top_partial (read_partial_labels ns [])) (λ p. ap top_partial (read-partial_labels p [] []))

@@ -16,7 +16,8 @@ abbrev pub partial_node_counts : List Partial → ℕ
 partial_node_counts [] = 0
 partial_node_counts (p ∷ ps) = suc (partial_node_count p + partial_node_counts ps)
 
-pub node_count-applications : (p : Partial) (qs : List Partial) → partial_node_count (applications p qs) ≡ partial_node_count p + partial_node_counts qs
+pub node_count-applications :
+    (p : Partial) (qs : List Partial) → partial_node_count (applications p qs) ≡ partial_node_count p + partial_node_counts qs
 node_count-applications p [] = omega arith
 node_count-applications p (q ∷ qs) = omega (arith, node_count-applications (application p q) qs)
 

@@ -26,4 +26,6 @@ IsNewGroup h (g ∷ gs) = (same_term h g.0 ≡ false) × IsNewGroup h gs
 -- a literal has come under a head, behind those of its sign that were there, and the others are kept as they were
 abbrev pub Keeps : Lambda → SatLit → List (Lambda × Signed) → List (Lambda × Signed) → Type 0
 Keeps h l old new =
-    (k : Lambda) (sign : Bool) → kept_under k sign new ≡ (if same_term k h && same_sign sign l.positive then kept_under k sign old ++ l ∷ [] else kept_under k sign old)
+    (k : Lambda) (sign : Bool)
+    → kept_under k sign new
+            ≡ (if same_term k h && same_sign sign l.positive then kept_under k sign old ++ l ∷ [] else kept_under k sign old)

@@ -21,5 +21,6 @@ behind_spaces bytes = behind_front is_space bytes
 -- the digits of a number, behind some spaces and before any spaces and an ending
 abbrev pub digits_in : List ℕ → Option (List ℕ)
 digits_in bytes =
-    if not (has_no_bytes (front is_space bytes)) && is_decimal (front is_digit (behind_spaces bytes)) && is_ending (behind_spaces (behind_front is_digit (behind_spaces bytes)))
+    if not (has_no_bytes (front is_space bytes)) && is_decimal (front is_digit (behind_spaces bytes)) && is_ending
+        (behind_spaces (behind_front is_digit (behind_spaces bytes)))
     then Some (front is_digit (behind_spaces bytes)) else None

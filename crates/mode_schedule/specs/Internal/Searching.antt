@@ -46,12 +46,14 @@ IsFound setting start n (Spent conflicts) = IsSpent setting start conflicts
 IsFound setting start n Paused = ⊥
 
 -- a search at such a place of its run, which was refused no memory
-pub record IsReadyAt (setting : Setting) (start : List Literal) (n : ℕ) (t : Tables) (q : Queue Planned Delays) (m : Mode) (refused : Bool) : Type 0 where
+pub record IsReadyAt (setting : Setting) (start : List Literal) (n : ℕ) (t : Tables) (q : Queue Planned Delays) (m : Mode) (refused : Bool)
+    : Type 0 where
   pub at : IsAt setting start n t q m
   pub ready : refused ≡ false
 
 -- a search is left as after a step that answered that it is closed, after n commands of its run
-pub record IsClosedAfter (setting : Setting) (start : List Literal) (n : ℕ) (t : Tables) (q : Queue Planned Delays) (m : Mode) : Type 0 where
+pub record IsClosedAfter (setting : Setting) (start : List Literal) (n : ℕ) (t : Tables) (q : Queue Planned Delays) (m : Mode) : Type 0
+    where
   pub under_way : IsUnderWay t q m
   pub setting_is : setting_by t q ≡ setting
   pub start_is : start_in t ≡ start

@@ -15,7 +15,8 @@ waiting_of e = record { due = e.due; number = e.number; command = e.command.bloc
 -- the first turns of runs with these slices, from this number on
 abbrev pub first_entries : ℕ → List ℕ → List (Entry Turn)
 first_entries k [] = []
-first_entries k (slice ∷ slices) = record { due = slice; number = k; command = record { block = k; slice = slice } } ∷ first_entries (suc k) slices
+first_entries k (slice ∷ slices) =
+    record { due = slice; number = k; command = record { block = k; slice = slice } } ∷ first_entries (suc k) slices
 
 -- no run is there yet
 abbrev pub AreNone : {S : Type 0} → List (Option S) → Type 0
@@ -23,7 +24,8 @@ AreNone [] = Unit {0}
 AreNone (place ∷ places) = (place ≡ None) × AreNone places
 
 -- a schedule of runs with these slices before its first turn
-pub record IsFresh {S : Type 0} (slices : List ℕ) (entries : List (Entry Turn)) (pushes total : ℕ) (exhausted : Bool) (runs : List (Option S)) : Type 0 where
+pub record IsFresh {S : Type 0} (slices : List ℕ) (entries : List (Entry Turn)) (pushes total : ℕ) (exhausted : Bool)
+    (runs : List (Option S)) : Type 0 where
   pub entries_are : entries ≡ first_entries 0 slices
   pub pushes_are : pushes ≡ length slices
   pub total_is : total ≡ 0
@@ -37,7 +39,8 @@ HaveOwnBlocks [] = Unit {0}
 HaveOwnBlocks (e ∷ es) = Each (λ x. x.command.block ≢ e.command.block) es × HaveOwnBlocks es
 
 -- a turn that waits, with its slot and the place of its run
-pub record IsTurn {S : Type 0} (At : Setting → ℕ → S → Type 0) (slots : List Slot) (done : List ℕ) (runs : List (Option S)) (e : Entry Turn) : Type 0 where
+pub record IsTurn {S : Type 0} (At : Setting → ℕ → S → Type 0) (slots : List Slot) (done : List ℕ) (runs : List (Option S)) (e : Entry Turn)
+    : Type 0 where
   pub slot : Slot
   pub its_slot : slice_get slots e.command.block ≡ Some slot
   pub slice_is : e.command.slice ≡ slot.slice
@@ -51,7 +54,8 @@ most_commands = 1000000
 
 -- Turns and runs that stand for a course, from which the schedule ends as from its start. No run has carried out more commands than it may
 -- at most.
-pub record StandsForCourse {S : Type 0} (At : Setting → ℕ → S → Type 0) (slots : List Slot) (start : List Literal) (entries : List (Entry Turn)) (pushes total : ℕ) (exhausted : Bool) (runs : List (Option S)) : Type 0 where
+pub record StandsForCourse {S : Type 0} (At : Setting → ℕ → S → Type 0) (slots : List Slot) (start : List Literal)
+    (entries : List (Entry Turn)) (pushes total : ℕ) (exhausted : Bool) (runs : List (Option S)) : Type 0 where
   pub course : Course
   pub turns_are : course.turns ≡ map waiting_of entries
   pub pushes_are : course.pushes ≡ pushes

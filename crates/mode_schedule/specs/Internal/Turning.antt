@@ -39,7 +39,8 @@ WhereLeft turned P = Unit {0}
 
 -- What a turn of a run came to that had carried out n commands: how it ended, and what holds of the run where it waits and where it is
 -- closed.
-pub record TookTurn (At Left : ℕ → Type 0) (setting : Setting) (start : List Literal) (slice n : ℕ) (turned : Turned) (commands : ℕ) : Type 0 where
+pub record TookTurn (At Left : ℕ → Type 0) (setting : Setting) (start : List Literal) (slice n : ℕ) (turned : Turned) (commands : ℕ) : Type
+    0 where
   pub ends : TurnEnds setting start slice n (n + commands) turned
   pub within : n + commands ≤ setting.mode.commands
   pub paused : WherePaused turned (At (n + commands))
@@ -57,7 +58,8 @@ pub record IsRunThere {S : Type 0} (P : ℕ → S → Type 0) (n : ℕ) (place :
   pub holds : P n run
 
 -- the same of a turn of the run at a place: one that has left isn't there any more
-pub record TookPlace {S : Type 0} (At Left : ℕ → S → Type 0) (setting : Setting) (start : List Literal) (slice n : ℕ) (place : Option S) (turned : Turned) (commands : ℕ) : Type 0 where
+pub record TookPlace {S : Type 0} (At Left : ℕ → S → Type 0) (setting : Setting) (start : List Literal) (slice n : ℕ) (place : Option S)
+    (turned : Turned) (commands : ℕ) : Type 0 where
   pub ends : TurnEnds setting start slice n (n + commands) turned
   pub within : n + commands ≤ setting.mode.commands
   pub paused : WherePaused turned (IsRunThere At (n + commands) place)

@@ -1,5 +1,5 @@
 -- The instances that are due on a branch, by their places in the list of those that are used.
-use Rattle.std.specs.Prelude.{◌≡◌, ◌<◌, ◌||◌, ◌⊎◌, ℕ, Bool, true, false, List, [], length, Option, Some, None, slice_get, slice_index_or, Contains}
+use Rattle.std.specs.Prelude.{◌≡◌, ◌<◌, ◌||◌, ◌⊎◌, ℕ, Bool, true, List, [], length, Option, Some, None, slice_get, slice_index_or, Contains}
 use Rattle.std.specs.Ordering.{nat_cmp}
 use Rattle.std.specs.List.{list_any, All}
 use Rattle.std.specs.BTreeSet.{contains}
@@ -44,7 +44,8 @@ names_variable i v = mentions_variable i.principals v || list_any (λ a. mention
 
 -- for each variable, the places of the instances in which it stands are listed
 abbrev pub AreNoted : Table → List ℕ → List (List ℕ) → Type 0
-AreNoted t used noted = (u k : ℕ) (v : Var) → slice_get used u ≡ Some k → names_variable (at_number t k) v ≡ true → Contains (slice_index_or noted v.0 []) u
+AreNoted t used noted =
+    (u k : ℕ) (v : Var) → slice_get used u ≡ Some k → names_variable (at_number t k) v ≡ true → Contains (slice_index_or noted v.0 []) u
 
 -- only places of instances are listed
 abbrev pub ArePlacesOfUsed : List ℕ → List (List ℕ) → Type 0

@@ -4,7 +4,7 @@ use Rattle.stt_core.specs.Lambda.{Lambda}
 use Rattle.tableau_calculus.specs.declared.refutation.Line.{Line}
 use Rattle.sat_base.specs.declared.literal.SatLit.{SatLit}
 use Rattle.search_spec.specs.Numbered.{numbers}
-use Rattle.plain_tableau.specs.Trees.{TreeInstance, PlainTree, closed, node, PlainTrees, none, more, nodes_in, nodes_in_all}
+use Rattle.plain_tableau.specs.Trees.{TreeInstance, PlainTree, PlainTrees, none, more, nodes_in, nodes_in_all}
 use Rattle.plain_tableau.specs.Expansion.{is_closed_branch, Expanded, found, open_at, over, put_under, Expands, ExpandEach}
 use Rattle.plain_tableau.specs.Lines.{tree_children, lines_for_tree, lines_for_trees}
 use Rattle.plain_tableau.specs.declared.walk.Frame.{Frame}
@@ -56,13 +56,19 @@ module _ (used : List (TreeInstance SatLit)) (limit : ℕ) where
   -- what comes of the whole, where this comes of what the nodes wait for
   abbrev pub Returns : List Below → Expanded SatLit (PlainTree SatLit) → Expanded SatLit (PlainTree SatLit) → Type 0
   Returns [] o r = o ≡ r
-  Returns (g ∷ gs) (found t) r = (os : Expanded SatLit (PlainTrees SatLit)) × ExpandEach numbers used limit (suc (made_in gs + nodes_in_all (with_last g.done t))) g.branch (left_of (with_tree g t)) os × Returns gs (put_under g.instance g.branch (trees_behind (with_last g.done t) os)) r
+  Returns (g ∷ gs) (found t) r =
+      (os : Expanded SatLit (PlainTrees SatLit))
+      × ExpandEach numbers used limit (suc (made_in gs + nodes_in_all (with_last g.done t))) g.branch (left_of (with_tree g t)) os
+      × Returns gs (put_under g.instance g.branch (trees_behind (with_last g.done t) os)) r
   Returns (g ∷ gs) (open_at b) r = r ≡ open_at b
   Returns (g ∷ gs) over r = r ≡ over
 
   -- what comes of the whole, where the innermost node is to go on with its further alternatives
   abbrev pub GoesEach : List Below → Below → Expanded SatLit (PlainTree SatLit) → Type 0
-  GoesEach gs g r = (os : Expanded SatLit (PlainTrees SatLit)) × ExpandEach numbers used limit (suc (made_in gs + nodes_in_all g.done)) g.branch (left_of g) os × Returns gs (put_under g.instance g.branch (trees_behind g.done os)) r
+  GoesEach gs g r =
+      (os : Expanded SatLit (PlainTrees SatLit))
+      × ExpandEach numbers used limit (suc (made_in gs + nodes_in_all g.done)) g.branch (left_of g) os
+      × Returns gs (put_under g.instance g.branch (trees_behind g.done os)) r
 
   -- what comes of the whole, where the branch is to be expanded
   abbrev pub Goes : List Below → List SatLit → Expanded SatLit (PlainTree SatLit) → Type 0
@@ -79,10 +85,12 @@ abbrev pub AreFrames : List (TreeInstance SatLit) → List Lambda → List Below
 AreFrames used atoms [] [] branch = Unit {0}
 AreFrames used atoms [] (f ∷ fs) branch = ⊥
 AreFrames used atoms (g ∷ gs) [] branch = ⊥
-AreFrames used atoms (g ∷ gs) (f ∷ fs) branch = IsFrame used (length (written atoms gs)) g f × (take (length g.branch) branch ≡ g.branch) × AreFrames used atoms gs fs g.branch
+AreFrames used atoms (g ∷ gs) (f ∷ fs) branch =
+    IsFrame used (length (written atoms gs)) g f × (take (length g.branch) branch ≡ g.branch) × AreFrames used atoms gs fs g.branch
 
 -- the branch is to be expanded
-pub record IsAhead (used : List (TreeInstance SatLit)) (limit : ℕ) (start : List SatLit) (atoms : List Lambda) (made : ℕ) (frames : List Frame) (branch : List SatLit) (lines : List Line) : Type 0 where
+pub record IsAhead (used : List (TreeInstance SatLit)) (limit : ℕ) (start : List SatLit) (atoms : List Lambda) (made : ℕ)
+    (frames : List Frame) (branch : List SatLit) (lines : List Line) : Type 0 where
   pub below : List Below
   pub nodes : AreFrames used atoms below frames branch
   pub is_open : is_closed_branch numbers branch ≡ false
@@ -91,7 +99,8 @@ pub record IsAhead (used : List (TreeInstance SatLit)) (limit : ℕ) (start : Li
   pub whole : (r : Expanded SatLit (PlainTree SatLit)) → Goes used limit below branch r → Expands numbers used limit 0 start r
 
 -- the node of the frame is to go on with its further alternatives
-pub record IsBack (used : List (TreeInstance SatLit)) (limit : ℕ) (start : List SatLit) (atoms : List Lambda) (made : ℕ) (frames : List Frame) (frame : Frame) (branch : List SatLit) (lines : List Line) : Type 0 where
+pub record IsBack (used : List (TreeInstance SatLit)) (limit : ℕ) (start : List SatLit) (atoms : List Lambda) (made : ℕ)
+    (frames : List Frame) (frame : Frame) (branch : List SatLit) (lines : List Line) : Type 0 where
   pub below : List Below
   pub top : Below
   pub nodes : AreFrames used atoms below frames branch
@@ -103,7 +112,8 @@ pub record IsBack (used : List (TreeInstance SatLit)) (limit : ℕ) (start : Lis
   pub whole : (r : Expanded SatLit (PlainTree SatLit)) → GoesEach used limit below top r → Expands numbers used limit 0 start r
 
 -- the whole tree is written
-pub record IsWalkDone (used : List (TreeInstance SatLit)) (limit : ℕ) (start : List SatLit) (atoms : List Lambda) (made : ℕ) (lines : List Line) : Type 0 where
+pub record IsWalkDone (used : List (TreeInstance SatLit)) (limit : ℕ) (start : List SatLit) (atoms : List Lambda) (made : ℕ)
+    (lines : List Line) : Type 0 where
   pub tree : PlainTree SatLit
   pub expands : Expands numbers used limit 0 start (found tree)
   pub are_lines : lines ≡ lines_for_tree atoms 0 tree
@@ -119,7 +129,8 @@ abbrev pub IsFull : List (TreeInstance SatLit) → Frame → Type 0
 IsFull used f = (i : TreeInstance SatLit) → slice_get used f.place ≡ Some i → length i.alternatives ≤ length f.children
 
 -- there is a branch that isn't closed, or all is written
-abbrev pub WalkGoesOn : List (TreeInstance SatLit) → ℕ → List SatLit → List Lambda → ℕ → List Frame → List SatLit → List Line → Bool → Type 0
+abbrev pub WalkGoesOn :
+    List (TreeInstance SatLit) → ℕ → List SatLit → List Lambda → ℕ → List Frame → List SatLit → List Line → Bool → Type 0
 WalkGoesOn used limit start atoms made frames branch lines true = IsAhead used limit start atoms made frames branch lines
 WalkGoesOn used limit start atoms made frames branch lines false = IsWalkDone used limit start atoms made lines
 

@@ -26,7 +26,8 @@ pub record RefutesByTables (t : Tables) (refutation : Refutation) : Type 0 where
   pub input : refutes.shortly.input ≡ input_of t
 
 -- a refutation, and what comes of a tree from what it is rebuilt from
-pub record RefutesWithTree (scope : Scope) (start : List Literal) (clauses : List Clause) (conflicts : ℕ) (refutation : Refutation) (nodes : Option ℕ) (stripped : Option Stripped) : Type 0 where
+pub record RefutesWithTree (scope : Scope) (start : List Literal) (clauses : List Clause) (conflicts : ℕ) (refutation : Refutation)
+    (nodes : Option ℕ) (stripped : Option Stripped) : Type 0 where
   pub refutes : RefutesFrom scope start clauses conflicts refutation
   pub tree : IsTreeAsked scope start start refutes.shortly.input nodes stripped
 

@@ -127,7 +127,8 @@ pub record IsRightState (t : Tables) (q : Queue Planned Delays) : Type 0 where
   pub chosen : Each (IsPlace t.basis.bank.terms) t.chosen
   pub described : Each (IsPlace t.basis.bank.terms) t.described
   pub walked : Each (IsPlace t.basis.bank.terms) t.walked
-  pub taken : AreTaken (map (term_at t.basis.bank.terms) t.chosen) (map (term_at t.basis.bank.terms) t.described) t.basis.bank.terms t.walked
+  pub taken :
+      AreTaken (map (term_at t.basis.bank.terms) t.chosen) (map (term_at t.basis.bank.terms) t.described) t.basis.bank.terms t.walked
   pub offered : ListsOffers (the_offers t.offers) t.names t.bases.items (without_witnesses t.basis.bank)
   pub takers : (n : ℕ) → ids_of (base n) t.takers ≡ places_to n 0 (map (λ r. r.type) (rows_in t.basis))
   pub stems : AreStems (scope_by t.basis) [] t.stems.items

@@ -47,4 +47,5 @@ abbrev pub AreBranches : List Lambda → List Line → List LineBranch → Type 
 AreBranches terms [] [] = Unit {0}
 AreBranches terms [] (b ∷ bs) = ⊥
 AreBranches terms (line ∷ lines) [] = ⊥
-AreBranches terms (line ∷ lines) (b ∷ bs) = AreNumberedBranch terms line.branch × RepresentsBy terms line.branch (line_has b) × AreBranches terms lines bs
+AreBranches terms (line ∷ lines) (b ∷ bs) =
+    AreNumberedBranch terms line.branch × RepresentsBy terms line.branch (line_has b) × AreBranches terms lines bs

@@ -1,10 +1,9 @@
 -- Lines that are right.
 use Rattle.std.specs.Prelude.{[]}
 use Rattle.stt_core.specs.Typing.{Scope}
-use Rattle.tableau_calculus.specs.Witnesses.{with_rows}
 use Rattle.tableau_calculus.specs.Accepted.{AreRightLines}
 use Rattle.tableau_calculus.specs.declared.refutation.Refutation.{Refutation}
 
 -- all lines of the refutation are right
 abbrev pub AreRightIn : Scope → Refutation → Type 0
-AreRightIn scope r = AreRightLines (with_rows scope r.witnesses) r.witnesses [] r.lines
+AreRightIn scope r = AreRightLines scope r.witnesses r.lines

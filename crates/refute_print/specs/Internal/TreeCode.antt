@@ -30,7 +30,9 @@ abbrev pub top_type : List TextTypeTree → TextTypeTree
 top_type [] = formula
 top_type (a ∷ stack) = a
 
-pub read-type_nodes : (a : TextTypeTree) (rest : List (ℕ × List ℕ)) (stack : List TextTypeTree) → read_type_nodes (type_nodes a rest) stack ≡ read_type_nodes rest (a ∷ stack)
+pub read-type_nodes :
+    (a : TextTypeTree) (rest : List (ℕ × List ℕ)) (stack : List TextTypeTree)
+    → read_type_nodes (type_nodes a rest) stack ≡ read_type_nodes rest (a ∷ stack)
 read-type_nodes formula rest stack = refl
 read-type_nodes individual rest stack = refl
 read-type_nodes (named w) rest stack = refl
@@ -39,7 +41,8 @@ read-type_nodes (arrow a b) rest stack =
 
 abbrev pub type_tree_code : Coded TextTypeTree
 type_tree_code =
-    code_by (List (ℕ × List ℕ)) (coded_list (coded× coded_ℕ (coded_list coded_ℕ))) (λ a. type_nodes a []) (λ ns. top_type (read_type_nodes ns [])) (λ a. ap top_type (read-type_nodes a [] []))
+    code_by (List (ℕ × List ℕ)) (coded_list (coded× coded_ℕ (coded_list coded_ℕ))) (λ a. type_nodes a [])
+        (λ ns. top_type (read_type_nodes ns [])) (λ a. ap top_type (read-type_nodes a [] []))
 
 abbrev pub TreeLabel : Type 0
 TreeLabel = ℕ × (ℕ × (List ℕ × TextTypeTree))
@@ -92,7 +95,9 @@ abbrev pub top_tree : List TermTree → TermTree
 top_tree [] = bound 0
 top_tree (t ∷ stack) = t
 
-read_constant_node : (c : ConstantTree) (rest : List TreeLabel) (stack : List TermTree) → read_tree_labels (constant_tree_label c ∷ rest) stack ≡ read_tree_labels rest (constant c ∷ stack)
+read_constant_node :
+    (c : ConstantTree) (rest : List TreeLabel) (stack : List TermTree)
+    → read_tree_labels (constant_tree_label c ∷ rest) stack ≡ read_tree_labels rest (constant c ∷ stack)
 read_constant_node (name w) rest stack = refl
 read_constant_node (witness k) rest stack = refl
 read_constant_node falsity rest stack = refl
@@ -103,12 +108,17 @@ read_constant_node (equality a) rest stack = refl
 read_constant_node (choice a) rest stack = refl
 read_constant_node (description a) rest stack = refl
 
-pub read-tree_labels : (t : TermTree) (rest : List TreeLabel) (stack : List TermTree) → read_tree_labels (tree_labels t rest) stack ≡ read_tree_labels rest (t ∷ stack)
+pub read-tree_labels :
+    (t : TermTree) (rest : List TreeLabel) (stack : List TermTree)
+    → read_tree_labels (tree_labels t rest) stack ≡ read_tree_labels rest (t ∷ stack)
 read-tree_labels (constant c) rest stack = read_constant_node c rest stack
 read-tree_labels (bound k) rest stack = refl
 read-tree_labels (lam a s) rest stack = read-tree_labels s ((10, (0, ([], a))) ∷ rest) stack
-read-tree_labels (app s u) rest stack = read-tree_labels s (tree_labels u ((11, (0, ([], formula))) ∷ rest)) stack ∙ read-tree_labels u ((11, (0, ([], formula))) ∷ rest) (s ∷ stack)
+read-tree_labels (app s u) rest stack =
+    read-tree_labels s (tree_labels u ((11, (0, ([], formula))) ∷ rest)) stack
+        ∙ read-tree_labels u ((11, (0, ([], formula))) ∷ rest) (s ∷ stack)
 
 abbrev pub term_tree_code : Coded TermTree
 term_tree_code =
-    code_by (List TreeLabel) (coded_list (coded× coded_ℕ (coded× coded_ℕ (coded× (coded_list coded_ℕ) type_tree_code)))) (λ t. tree_labels t []) (λ ns. top_tree (read_tree_labels ns [])) (λ t. ap top_tree (read-tree_labels t [] []))
+    code_by (List TreeLabel) (coded_list (coded× coded_ℕ (coded× coded_ℕ (coded× (coded_list coded_ℕ) type_tree_code))))
+        (λ t. tree_labels t []) (λ ns. top_tree (read_tree_labels ns [])) (λ t. ap top_tree (read-tree_labels t [] []))

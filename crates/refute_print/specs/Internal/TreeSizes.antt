@@ -15,7 +15,8 @@ abbrev pub tree_node_counts : List TermTree → ℕ
 tree_node_counts [] = 0
 tree_node_counts (t ∷ ts) = suc (tree_node_count t + tree_node_counts ts)
 
-pub tree_node_count-applied : (t : TermTree) (us : List TermTree) → tree_node_count (applied_tree t us) ≡ tree_node_count t + tree_node_counts us
+pub tree_node_count-applied :
+    (t : TermTree) (us : List TermTree) → tree_node_count (applied_tree t us) ≡ tree_node_count t + tree_node_counts us
 tree_node_count-applied t [] = omega arith
 tree_node_count-applied t (u ∷ us) = omega (arith, tree_node_count-applied (app t u) us)
 

@@ -25,7 +25,8 @@ signed_text_at positive bytes = do
   unsigned_at positive t.0 t.1
 
 unfoldable pub literal_text_at : List ℕ → Option (LiteralTree × List ℕ)
-literal_text_at bytes = by_front (behind_text (codes "+") bytes) (signed_text_at true) (by_front (behind_text (codes "-") bytes) (signed_text_at false) None)
+literal_text_at bytes =
+    by_front (behind_text (codes "+") bytes) (signed_text_at true) (by_front (behind_text (codes "-") bytes) (signed_text_at false) None)
 
 unfoldable pub child_at : List ℕ → Option (Child × List ℕ)
 child_at bytes =

@@ -78,7 +78,8 @@ no_term bytes = None
 
 -- a term in which at most so many parentheses, brackets and functions are open at once
 unfoldable pub term_text_at : ℕ → List ℕ → TermAt
-term_text_at zero bytes = by_front (behind_text (codes "^") bytes) no_term (by_front (behind_text (codes "(") bytes) no_term (head_text_at zero bytes))
+term_text_at zero bytes =
+    by_front (behind_text (codes "^") bytes) no_term (by_front (behind_text (codes "(") bytes) no_term (head_text_at zero bytes))
 term_text_at (suc depth) bytes =
     by_front (behind_text (codes "^") bytes) (lambda_at depth (term_text_at depth))
     (by_front (behind_text (codes "(") bytes) (application_at depth (term_text_at depth)) (head_text_at (suc depth) bytes))

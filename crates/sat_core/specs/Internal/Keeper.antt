@@ -18,11 +18,13 @@ AreUsed table bound clauses = (k : ℕ) (clause : List SatLit) → k < bound →
 
 -- the first clauses, up to a number, are true
 abbrev pub AreTrue : List Bool → ℕ → List (List SatLit) → Type 0
-AreTrue values bound clauses = (k : ℕ) (clause : List SatLit) → k < bound → slice_get clauses k ≡ Some clause → IsTrue (clause_value (assigned values) clause)
+AreTrue values bound clauses =
+    (k : ℕ) (clause : List SatLit) → k < bound → slice_get clauses k ≡ Some clause → IsTrue (clause_value (assigned values) clause)
 
 -- the first clauses, up to a number, are true, other than one
 abbrev pub AreTrueBut : List Bool → ℕ → ℕ → List (List SatLit) → Type 0
-AreTrueBut values n bound clauses = (k : ℕ) (clause : List SatLit) → k < bound → k ≢ n → slice_get clauses k ≡ Some clause → IsTrue (clause_value (assigned values) clause)
+AreTrueBut values n bound clauses =
+    (k : ℕ) (clause : List SatLit) → k < bound → k ≢ n → slice_get clauses k ≡ Some clause → IsTrue (clause_value (assigned values) clause)
 
 -- so many clauses are in the table, and so many are true
 pub record IsKeeper (values : List Bool) (uses : UseTable) (listed kept : ℕ) (clauses : List (List SatLit)) : Type 0 where

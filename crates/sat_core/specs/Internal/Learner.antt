@@ -18,7 +18,8 @@ use Rattle.sat_propagate.specs.Internal.Propagator.{IsPropagator, texts}
 use Rattle.sat_propagate.specs.declared.propagator.Propagator.{Propagator}
 
 -- each clause of the propagator has the name of a clause or result that it is, and its variables have marks
-pub record IsNamedPropagator (clauses results : List (List SatLit)) (propagator : Propagator) (names : List Premise) (marks : List Bool) : Type 0 where
+pub record IsNamedPropagator (clauses results : List (List SatLit)) (propagator : Propagator) (names : List Premise) (marks : List Bool) :
+    Type 0 where
   pub right : IsPropagator propagator.trail propagator.processed propagator.clauses.items propagator.lists
   pub named : AreNamedPremises clauses results names propagator.clauses.items
   pub names_made : length names ≡ length propagator.clauses.items
@@ -45,7 +46,8 @@ pub record AreRefutedClauses (clauses results : List (List SatLit)) : Type 0 whe
   pub ends : results ≡ learned_from true results ++ [] ∷ []
   pub propagated : ReachesFalse (clauses ++ learned_from true results) []
 
-pub record IsLearnerOf (clauses : List (List SatLit)) (log : List LogEntry) (is_refuted : Bool) (propagator : Propagator) (names : List Premise) (marks : List Bool) (inserted_clauses inserted_results : ℕ) : Type 0 where
+pub record IsLearnerOf (clauses : List (List SatLit)) (log : List LogEntry) (is_refuted : Bool) (propagator : Propagator)
+    (names : List Premise) (marks : List Bool) (inserted_clauses inserted_results : ℕ) : Type 0 where
   pub ready : IsNamedPropagator clauses (results log) propagator names marks
   pub logged : IsLogOver clauses log
   pub clauses_made : inserted_clauses ≤ length clauses
@@ -66,7 +68,12 @@ pub record GrewLearner (before after : Learner) : Type 0 where
   pub made_same : length after.propagator.trail.phases ≡ length before.propagator.trail.phases
   pub more : List LogEntry
   pub appended : after.log ≡ before.log ++ more
-  pub new : (k : ℕ) (clause : List SatLit) → length before.log ≤ k → slice_get (results after.log) k ≡ Some clause → clause ≢ [] → IsNew (before.clauses ++ take k (results after.log)) clause
+  pub new :
+      (k : ℕ) (clause : List SatLit)
+      → length before.log ≤ k
+      → slice_get (results after.log) k ≡ Some clause
+      → clause ≢ []
+      → IsNew (before.clauses ++ take k (results after.log)) clause
 
 -- nothing that callers see changed, beside the values
 pub record IsUnlearned (before after : Learner) : Type 0 where

@@ -37,7 +37,8 @@ IsUse table v k = IsListed table.uses (first_use table v) k
 
 -- the uses, where the one at a place is followed by another one
 abbrev pub followed : List Use → ℕ → ℕ → List Use
-followed uses last next = slice_set uses last (record { clause = (slice_index_or uses last (record { clause = 0; next = no_use })).clause; next = next })
+followed uses last next =
+    slice_set uses last (record { clause = (slice_index_or uses last (record { clause = 0; next = no_use })).clause; next = next })
 
 -- a variable has no use, or its first use leads to its last one, which none follows
 pub record IsChain (uses : List Use) (ends : Ends) : Type 0 where

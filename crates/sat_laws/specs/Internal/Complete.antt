@@ -16,4 +16,5 @@ IsClausePart some literals = (l : SatLit) → IsTrue (holds some l) → IsTrue (
 -- no clause is false in the list, and a literal that is the only one of a clause whose negation is not in the list is in the list
 pub record IsComplete (clauses : List (List SatLit)) (literals : List SatLit) : Type 0 where
   pub none_false : (clause : List SatLit) → Contains clauses clause → ¬ IsFalseIn literals clause
-  pub units_held : (clause : List SatLit) (l : SatLit) → Contains clauses clause → IsUnitClause literals clause l → IsTrue (holds literals l)
+  pub units_held :
+      (clause : List SatLit) (l : SatLit) → Contains clauses clause → IsUnitClause literals clause l → IsTrue (holds literals l)

@@ -8,4 +8,6 @@ use Rattle.sat_log.specs.Propagation.{IsUnitClause}
 -- each literal of the trail is a given one, or the only one of some clause whose negation is not earlier in the trail
 abbrev pub IsForced : List (List SatLit) → List SatLit → List SatLit → Type 0
 IsForced clauses given trail =
-    (i : ℕ) (l : SatLit) → slice_get trail i ≡ Some l → IsTrue (holds given l) ⊎ Any (λ clause. IsUnitClause (take i trail) clause l) clauses
+    (i : ℕ) (l : SatLit)
+    → slice_get trail i ≡ Some l
+    → IsTrue (holds given l) ⊎ Any (λ clause. IsUnitClause (take i trail) clause l) clauses

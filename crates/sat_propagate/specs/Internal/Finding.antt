@@ -44,7 +44,8 @@ pub record FindsFalse (literals : List SatLit) (found : Option Watched) (falsifi
   pub rest : AreOthersFalse literals watched.clause falsified other
 
 abbrev pub Finds : List SatLit → Option Watched → SatLit → Finding → Type 0
-Finds literals found falsified Stale = (watched : Watched) → found ≡ Some watched → watched.first ≢ watched.second → (watched.first ≢ falsified) × (watched.second ≢ falsified)
+Finds literals found falsified Stale =
+    (watched : Watched) → found ≡ Some watched → watched.first ≢ watched.second → (watched.first ≢ falsified) × (watched.second ≢ falsified)
 Finds literals found falsified (Satisfied l) = FindsTrue literals found falsified l
 Finds literals found falsified (Other l) = FindsOther literals found falsified l
 Finds literals found falsified (OnlyOpen l) = FindsUnit literals found falsified l

@@ -15,7 +15,12 @@ use Rattle.sat_propagate.specs.Internal.ClauseTable.{Watched}
 -- a step without a reason is a decision's; a reason is a clause whose only open literal was the step's
 pub record IsReasoned (clauses : List Watched) (trail : TrailState) (i : ℕ) (step : Step) : Type 0 where
   pub decided : step.reason ≡ None → Contains trail.starts i
-  pub forced : (n : ℕ) → step.reason ≡ Some n → (watched : Watched) × (slice_get clauses n ≡ Some watched) × IsUnitClause (take i (literals trail.steps)) watched.clause step.literal
+  pub forced :
+      (n : ℕ)
+      → step.reason ≡ Some n
+      → (watched : Watched)
+          × (slice_get clauses n ≡ Some watched)
+          × IsUnitClause (take i (literals trail.steps)) watched.clause step.literal
 
 -- a literal is watched, and the other watched one is this
 abbrev pub IsPair : Watched → SatLit → SatLit → Type 0
@@ -42,9 +47,20 @@ pub record IsPropagator (trail : TrailState) (processed : ℕ) (clauses : List W
   pub reasoned : (i : ℕ) (step : Step) → slice_get trail.steps i ≡ Some step → IsReasoned clauses trail i step
   pub started : All (λ s. s ≤ processed) trail.starts
   pub processed_within : processed ≤ length trail.steps
-  pub covered : (n : ℕ) (watched : Watched) → slice_get clauses n ≡ Some watched → IsCovered trail.starts (literals trail.steps) processed clauses watched.clause
-  pub members : (n : ℕ) (watched : Watched) → slice_get clauses n ≡ Some watched → IsTrue (holds watched.clause watched.first) × IsTrue (holds watched.clause watched.second)
-  pub listed : (n : ℕ) (watched : Watched) (l : SatLit) → slice_get clauses n ≡ Some watched → watched.first ≢ watched.second → Watches watched l → NamesWatches (watchers lists l) n watched.clause
+  pub covered :
+      (n : ℕ) (watched : Watched)
+      → slice_get clauses n ≡ Some watched
+      → IsCovered trail.starts (literals trail.steps) processed clauses watched.clause
+  pub members :
+      (n : ℕ) (watched : Watched)
+      → slice_get clauses n ≡ Some watched
+      → IsTrue (holds watched.clause watched.first) × IsTrue (holds watched.clause watched.second)
+  pub listed :
+      (n : ℕ) (watched : Watched) (l : SatLit)
+      → slice_get clauses n ≡ Some watched
+      → watched.first ≢ watched.second
+      → Watches watched l
+      → NamesWatches (watchers lists l) n watched.clause
   pub over : (n : ℕ) (watched : Watched) → slice_get clauses n ≡ Some watched → IsOver (length trail.phases) watched.clause
   pub lists_made : length trail.phases * 2 ≤ length lists
 
@@ -55,11 +71,16 @@ texts clauses = map (λ watched. watched.clause) clauses
 -- an entry of a literal's list is done: a clause that it names, with a blocker of that clause, and that watches the literal, is true
 abbrev pub IsWatchDone : TrailState → List Watched → SatLit → Watch → Type 0
 IsWatchDone trail clauses l entry =
-    (watched : Watched) → slice_get clauses entry.clause ≡ Some watched → Watches watched l → IsTrue (holds watched.clause entry.blocker) → IsTrue (satisfies (literals trail.steps) watched.clause)
+    (watched : Watched)
+    → slice_get clauses entry.clause ≡ Some watched
+    → Watches watched l
+    → IsTrue (holds watched.clause entry.blocker)
+    → IsTrue (satisfies (literals trail.steps) watched.clause)
 
 -- the first of some entries of a literal are done
 abbrev pub AreEntriesDone : TrailState → List Watched → SatLit → List Watch → ℕ → Type 0
-AreEntriesDone trail clauses l entries i = (k : ℕ) (entry : Watch) → k < i → slice_get entries k ≡ Some entry → IsWatchDone trail clauses l entry
+AreEntriesDone trail clauses l entries i =
+    (k : ℕ) (entry : Watch) → k < i → slice_get entries k ≡ Some entry → IsWatchDone trail clauses l entry
 
 -- the first entries of a literal's list are done
 abbrev pub AreDone : TrailState → List Watched → WatchTable → SatLit → ℕ → Type 0

@@ -58,7 +58,9 @@ abbrev pub top_lambda : List Lambda → Lambda
 top_lambda [] = bound 0
 top_lambda (t ∷ stack) = t
 
-read_constant_node : (c : Constant) (rest : List LambdaLabel) (stack : List Lambda) → read_lambda_labels (constant_label c ∷ rest) stack ≡ read_lambda_labels rest (constant c ∷ stack)
+read_constant_node :
+    (c : Constant) (rest : List LambdaLabel) (stack : List Lambda)
+    → read_lambda_labels (constant_label c ∷ rest) stack ≡ read_lambda_labels rest (constant c ∷ stack)
 read_constant_node (name k) rest stack = refl
 read_constant_node (witness k) rest stack = refl
 read_constant_node falsity rest stack = refl
@@ -69,12 +71,16 @@ read_constant_node (equality a) rest stack = refl
 read_constant_node (choice a) rest stack = refl
 read_constant_node (description a) rest stack = refl
 
-pub read-lambda_labels : (t : Lambda) (rest : List LambdaLabel) (stack : List Lambda) → read_lambda_labels (lambda_labels t rest) stack ≡ read_lambda_labels rest (t ∷ stack)
+pub read-lambda_labels :
+    (t : Lambda) (rest : List LambdaLabel) (stack : List Lambda)
+    → read_lambda_labels (lambda_labels t rest) stack ≡ read_lambda_labels rest (t ∷ stack)
 read-lambda_labels (constant c) rest stack = read_constant_node c rest stack
 read-lambda_labels (bound k) rest stack = refl
 read-lambda_labels (lam a s) rest stack = read-lambda_labels s ((10, (0, a)) ∷ rest) stack
-read-lambda_labels (app s u) rest stack = read-lambda_labels s (lambda_labels u ((11, (0, formula)) ∷ rest)) stack ∙ read-lambda_labels u ((11, (0, formula)) ∷ rest) (s ∷ stack)
+read-lambda_labels (app s u) rest stack =
+    read-lambda_labels s (lambda_labels u ((11, (0, formula)) ∷ rest)) stack ∙ read-lambda_labels u ((11, (0, formula)) ∷ rest) (s ∷ stack)
 
 abbrev pub lambda_code : Coded Lambda
 lambda_code =
-    code_by (List LambdaLabel) (coded_list (coded× coded_ℕ (coded× coded_ℕ type_code))) (λ t. lambda_labels t []) (λ ns. top_lambda (read_lambda_labels ns [])) (λ t. ap top_lambda (read-lambda_labels t [] []))
+    code_by (List LambdaLabel) (coded_list (coded× coded_ℕ (coded× coded_ℕ type_code))) (λ t. lambda_labels t [])
+        (λ ns. top_lambda (read_lambda_labels ns [])) (λ t. ap top_lambda (read-lambda_labels t [] []))

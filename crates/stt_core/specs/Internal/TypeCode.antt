@@ -22,9 +22,13 @@ abbrev pub top_of_types : List SimpleType → SimpleType
 top_of_types [] = base 0
 top_of_types (a ∷ stack) = a
 
-pub read-type_labels : (a : SimpleType) (rest : List ℕ) (stack : List SimpleType) → read_type_labels (type_labels a rest) stack ≡ read_type_labels rest (a ∷ stack)
+pub read-type_labels :
+    (a : SimpleType) (rest : List ℕ) (stack : List SimpleType)
+    → read_type_labels (type_labels a rest) stack ≡ read_type_labels rest (a ∷ stack)
 read-type_labels (base n) rest stack = refl
 read-type_labels (arrow a b) rest stack = read-type_labels a (type_labels b (0 ∷ rest)) stack ∙ read-type_labels b (0 ∷ rest) (a ∷ stack)
 
 abbrev pub type_code : Coded SimpleType
-type_code = code_by (List ℕ) (coded_list coded_ℕ) (λ a. type_labels a []) (λ ns. top_of_types (read_type_labels ns [])) (λ a. ap top_of_types (read-type_labels a [] []))
+type_code =
+    code_by (List ℕ) (coded_list coded_ℕ) (λ a. type_labels a []) (λ ns. top_of_types (read_type_labels ns []))
+        (λ a. ap top_of_types (read-type_labels a [] []))

@@ -36,8 +36,15 @@ IsEquationAt branch i sign None = (a : SimpleType) (s t : Lambda) → StandsAt b
 -- the literal of this sign that stands at the place is a constant whose arguments are compared, with these, or none is
 abbrev pub IsSpineAt : List Literal → ℕ → Bool → Option Spine → Type 0
 IsSpineAt branch i sign (Some p) =
-    (c : Constant) × (s : Lambda) × (ss : List Lambda) × IsDecomposed c × (the_head p.head.now ≡ constant c) × (p.args.now ≡ s ∷ ss) × StandsAt branch i sign (applied (constant c) (s ∷ ss))
-IsSpineAt branch i sign None = (c : Constant) (s : Lambda) (ss : List Lambda) → IsDecomposed c → StandsAt branch i sign (applied (constant c) (s ∷ ss)) → ⊥
+    (c : Constant)
+    × (s : Lambda)
+    × (ss : List Lambda)
+    × IsDecomposed c
+    × (the_head p.head.now ≡ constant c)
+    × (p.args.now ≡ s ∷ ss)
+    × StandsAt branch i sign (applied (constant c) (s ∷ ss))
+IsSpineAt branch i sign None =
+    (c : Constant) (s : Lambda) (ss : List Lambda) → IsDecomposed c → StandsAt branch i sign (applied (constant c) (s ∷ ss)) → ⊥
 
 -- the alternatives that a head's arguments differ, or that the head has no type
 abbrev pub ArgumentsDiffer : Scope → Lambda → List Lambda → List Lambda → Option (List (List Literal)) → Type 0
@@ -47,8 +54,12 @@ ArgumentsDiffer scope h ss ts None = type_of scope [] h ≡ None
 -- the alternatives that the arguments of two terms differ, or that these have no head that is one and has a type
 abbrev pub SpinesDiffer : Scope → Option Spine → Option Spine → Option (List (List Literal)) → Type 0
 SpinesDiffer scope (Some p) (Some q) (Some alternatives) =
-    (a : SimpleType) × (type_of scope [] (the_head p.head.now) ≡ Some a) × (the_head p.head.now ≡ the_head q.head.now) × (alternatives ≡ differ_each a p.args.now q.args.now)
-SpinesDiffer scope (Some p) (Some q) None = (a : SimpleType) → type_of scope [] (the_head p.head.now) ≡ Some a → the_head p.head.now ≡ the_head q.head.now → ⊥
+    (a : SimpleType)
+    × (type_of scope [] (the_head p.head.now) ≡ Some a)
+    × (the_head p.head.now ≡ the_head q.head.now)
+    × (alternatives ≡ differ_each a p.args.now q.args.now)
+SpinesDiffer scope (Some p) (Some q) None =
+    (a : SimpleType) → type_of scope [] (the_head p.head.now) ≡ Some a → the_head p.head.now ≡ the_head q.head.now → ⊥
 SpinesDiffer scope None q (Some alternatives) = ⊥
 SpinesDiffer scope (Some p) None (Some alternatives) = ⊥
 SpinesDiffer scope None q None = Unit {0}

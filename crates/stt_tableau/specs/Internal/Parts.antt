@@ -21,5 +21,11 @@ IsQuantified t None = (a : SimpleType) (f : Lambda) → t ≡ every a f → ⊥
 -- the term is such a constant with arguments, or isn't
 abbrev pub IsSpine : Lambda → Option Spine → Type 0
 IsSpine t (Some p) =
-    (c : Constant) × (s : Lambda) × (ss : List Lambda) × IsDecomposed c × (the_head p.head.now ≡ constant c) × (p.args.now ≡ s ∷ ss) × (t ≡ applied (constant c) (s ∷ ss))
+    (c : Constant)
+    × (s : Lambda)
+    × (ss : List Lambda)
+    × IsDecomposed c
+    × (the_head p.head.now ≡ constant c)
+    × (p.args.now ≡ s ∷ ss)
+    × (t ≡ applied (constant c) (s ∷ ss))
 IsSpine t None = (c : Constant) (s : Lambda) (ss : List Lambda) → IsDecomposed c → t ≡ applied (constant c) (s ∷ ss) → ⊥

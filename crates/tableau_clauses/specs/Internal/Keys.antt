@@ -31,7 +31,12 @@ same-true [] (k ∷ ks) h = cc
 same-true (l ∷ ls) [] h = cc
 same-true (l ∷ ls) (k ∷ ks) h = go (same_literal l k) refl (same-true ls ks) h
   where
-    go : (b : Bool) → same_literal l k ≡ b → (same_clause numbers ls ks ≡ true → ls ≡ ks) → (if b then same_clause numbers ls ks else false) ≡ true → l ∷ ls ≡ k ∷ ks
+    go :
+        (b : Bool)
+        → same_literal l k ≡ b
+        → (same_clause numbers ls ks ≡ true → ls ≡ ks)
+        → (if b then same_clause numbers ls ks else false) ≡ true
+        → l ∷ ls ≡ k ∷ ks
     go true e rest g = ap₂ (λ x xs. x ∷ xs) (same_literal-true l k e) (rest g)
     go false e rest g = cc
 
@@ -45,7 +50,8 @@ clause_decides a b = (same-true a b, λ e. ap (same_clause numbers a) (sym e) �
 -- two literals are one where their numbers are
 same_code : (n m : ℕ) → (n == m) ≡ same_literal (unpacked n) (unpacked m)
 same_code n m = elim (cases_Bool (n == m)) [
-  | inl same ↦ same ∙ sym (ap (λ (k : ℕ). same_literal (unpacked n) (unpacked k)) (sym (eqb-true n m same)) ∙ same_literal-refl (unpacked n))
+  | inl same ↦ same
+      ∙ sym (ap (λ (k : ℕ). same_literal (unpacked n) (unpacked k)) (sym (eqb-true n m same)) ∙ same_literal-refl (unpacked n))
   | inr apart ↦ apart ∙ sym (false_from_ne_true (same_literal (unpacked n) (unpacked m)) (λ t.
       eqb-false n m apart (sym (packed-unpacked n) ∙ ap packed (same_literal-true (unpacked n) (unpacked m) t) ∙ packed-unpacked m)))
 ]
@@ -55,7 +61,8 @@ pub pointwise-same : (ns ms : List ℕ) → pointwise nat_eq ns ms ≡ same_clau
 pointwise-same [] [] = refl
 pointwise-same [] (m ∷ ms) = refl
 pointwise-same (n ∷ ns) [] = refl
-pointwise-same (n ∷ ns) (m ∷ ms) = ap (λ (b : Bool). b && pointwise nat_eq ns ms) (same_code n m) ∙ go (same_literal (unpacked n) (unpacked m)) (pointwise-same ns ms)
+pointwise-same (n ∷ ns) (m ∷ ms) =
+    ap (λ (b : Bool). b && pointwise nat_eq ns ms) (same_code n m) ∙ go (same_literal (unpacked n) (unpacked m)) (pointwise-same ns ms)
   where
     go : (b : Bool) → pointwise nat_eq ns ms ≡ same_clause numbers (map unpacked ns) (map unpacked ms)
         → (b && pointwise nat_eq ns ms) ≡ (if b then same_clause numbers (map unpacked ns) (map unpacked ms) else false)

@@ -11,7 +11,8 @@ use Rattle.tableau_clauses.specs.Table.{Step, clauses_in, Table, EachComes, Stan
 -- the steps with each of the further clauses, in order, that isn't there yet
 abbrev pub with_steps : Origin → List Step → List (List SatLit) → List Step
 with_steps origin es [] = es
-with_steps origin es (c ∷ cs) = with_steps origin (if list_any (same_clause numbers c) (clauses_in es) then es else es ++ (c, origin) ∷ []) cs
+with_steps origin es (c ∷ cs) =
+    with_steps origin (if list_any (same_clause numbers c) (clauses_in es) then es else es ++ (c, origin) ∷ []) cs
 
 -- behind the earlier steps stand further ones of this origin
 pub record Adds (origin : Origin) (old new : List Step) : Type 0 where

@@ -68,7 +68,11 @@ pub record IsDrawn (drafts : List Draft) (of_clause : List (Option ℕ)) : Type 
 
 -- no line was made at this step or a later one
 abbrev pub IsEarlierDraft : List Draft → ℕ → ℕ → Type 0
-IsEarlierDraft drafts n k = (i : ℕ) (d : Draft) (at : At) → slice_get drafts i ≡ Some d → draft_place d ≡ place_after_step at → (at.result < n) ⊎ ((at.result ≡ n) × (at.step < k))
+IsEarlierDraft drafts n k =
+    (i : ℕ) (d : Draft) (at : At)
+    → slice_get drafts i ≡ Some d
+    → draft_place d ≡ place_after_step at
+    → (at.result < n) ⊎ ((at.result ≡ n) × (at.step < k))
 
 -- the second list is the first one with further ones behind it
 pub record ExtendsDrafts (old new : List Draft) : Type 0 where
@@ -76,19 +80,28 @@ pub record ExtendsDrafts (old new : List Draft) : Type 0 where
   pub is : new ≡ old ++ more
 
 -- at the place there is the clause, and this stands for it, whatever the terms of the atoms are
-pub record StandsFor (t : Table) (log : List LogEntry) (drafts : List Draft) (p : Place) (clause : List SatLit) (s : Standing) : Type 0 where
+pub record StandsFor (t : Table) (log : List LogEntry) (drafts : List Draft) (p : Place) (clause : List SatLit) (s : Standing) : Type 0
+    where
   pub within : IsStandingWithin t drafts s
-  pub stands : (b : Content) (atoms witnesses : List ℕ) → Stands (the_input b atoms t log witnesses) p clause (the_standing (the_sources b.terms atoms t) drafts s)
+  pub stands :
+      (b : Content) (atoms witnesses : List ℕ)
+      → Stands (the_input b atoms t log witnesses) p clause (the_standing (the_sources b.terms atoms t) drafts s)
 
 -- what stands for the first results
 abbrev pub AreResults : Table → List LogEntry → List Draft → List Standing → Type 0
 AreResults t log drafts of_result =
-    (m : ℕ) (s : Standing) (entry : LogEntry) → slice_get of_result m ≡ Some s → slice_get log m ≡ Some entry → StandsFor t log drafts (at_result m) entry.result s
+    (m : ℕ) (s : Standing) (entry : LogEntry)
+    → slice_get of_result m ≡ Some s
+    → slice_get log m ≡ Some entry
+    → StandsFor t log drafts (at_result m) entry.result s
 
 -- what a step makes of what stands for its two clauses
 pub record IsJoined (t : Table) (old new : List Draft) (p : Place) (v : Var) (s u r : Standing) : Type 0 where
   pub within : IsStandingWithin t new r
-  pub is : (terms : List Lambda) (atoms : List ℕ) → the_standing (the_sources terms atoms t) new r ≡ joined_standing p v (the_standing (the_sources terms atoms t) old s) (the_standing (the_sources terms atoms t) old u)
+  pub is :
+      (terms : List Lambda) (atoms : List ℕ)
+      → the_standing (the_sources terms atoms t) new r
+              ≡ joined_standing p v (the_standing (the_sources terms atoms t) old s) (the_standing (the_sources terms atoms t) old u)
 
 -- the premise is a clause, or one of so many results
 abbrev pub IsThere : ℕ → ℕ → Premise → Type 0
@@ -96,11 +109,15 @@ IsThere clauses results (premise.Clause m) = m < clauses
 IsThere clauses results (premise.Result m) = m < results
 
 -- what the chain of a result has so far, of which the further steps make the result
-pub record IsChained (t : Table) (log : List LogEntry) (drafts : List Draft) (n k : ℕ) (literals : List SatLit) (s : Standing) : Type 0 where
+pub record IsChained (t : Table) (log : List LogEntry) (drafts : List Draft) (n k : ℕ) (literals : List SatLit) (s : Standing) : Type 0
+    where
   pub clause : List SatLit
   pub same : literals ≡ each_once clause
   pub stands : StandsFor t log drafts (at_step n k) clause s
-  pub ahead : (entry : LogEntry) → slice_get log n ≡ Some entry → after_steps (the_clauses t) (results (take n log)) clause (drop k entry.chain.steps) ≡ Some entry.result
+  pub ahead :
+      (entry : LogEntry)
+      → slice_get log n ≡ Some entry
+      → after_steps (the_clauses t) (results (take n log)) clause (drop k entry.chain.steps) ≡ Some entry.result
 
 -- the chain of a result has this step
 pub record HasStep (log : List LogEntry) (n k : ℕ) (step : ChainStep) : Type 0 where

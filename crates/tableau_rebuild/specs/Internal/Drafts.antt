@@ -35,4 +35,5 @@ trees drafts = trees_after [] drafts
 -- a cut's lines are earlier ones, and no two lines are made at one place
 pub record AreDrafts (drafts : List Draft) : Type 0 where
   pub below : (i : ℕ) (at : At) (v : Var) (a b : ℕ) → slice_get drafts i ≡ Some (Cut at v a b) → (a < i) × (b < i)
-  pub apart : (i j : ℕ) → i < length drafts → j < length drafts → same_line (tree_at (trees drafts) i) (tree_at (trees drafts) j) ≡ true → i ≡ j
+  pub apart :
+      (i j : ℕ) → i < length drafts → j < length drafts → same_line (tree_at (trees drafts) i) (tree_at (trees drafts) j) ≡ true → i ≡ j

@@ -38,13 +38,17 @@ right_in (i ∷ j ∷ is) = j
 -- the line of an instance, with the places of its principals in the branch
 abbrev pub instance_by : List Lambda → List SatLit → Instance → Line
 instance_by atoms branch i =
-    record { branch = literals_of atoms branch; rule = rule_at_places i.rule (map (place_in branch) i.principals); children = map (λ _. Closed) i.alternatives }
+    record {
+      branch = literals_of atoms branch;
+      rule = rule_at_places i.rule (map (place_in branch) i.principals);
+      children = map (λ _. Closed) i.alternatives }
 
 abbrev pub close_by : List Lambda → List SatLit → Line
 close_by atoms branch = record { branch = literals_of atoms branch; rule = AtTwo CloseRule 0 1; children = [] }
 
 abbrev pub cut_by : List Lambda → List SatLit → Var → ℕ → ℕ → Line
-cut_by atoms branch v m n = record { branch = literals_of atoms branch; rule = CutRule (literal_at atoms (positive v)); children = Numbered m ∷ Numbered n ∷ [] }
+cut_by atoms branch v m n =
+    record { branch = literals_of atoms branch; rule = CutRule (literal_at atoms (positive v)); children = Numbered m ∷ Numbered n ∷ [] }
 
 -- the clause with this number comes from the instance
 pub record IsClauseFrom (b : Content) (atoms : List ℕ) (t : Table) (n : ℕ) (i : BankInstance) : Type 0 where
@@ -62,6 +66,8 @@ IsMakeable b atoms t numbers (Cut at v on off) = (v.0 < length atoms) × (on < l
 
 -- the line is that of the draft
 abbrev pub IsLineBy : Content → List ℕ → Table → List ℕ → List SatLit → Draft → Line → Type 0
-IsLineBy b atoms t numbers branch (Clause n) line = (i : BankInstance) → IsClauseFrom b atoms t n i → line ≡ instance_by (atoms_at b.terms atoms) branch (the_instance b.terms atoms i)
+IsLineBy b atoms t numbers branch (Clause n) line =
+    (i : BankInstance) → IsClauseFrom b atoms t n i → line ≡ instance_by (atoms_at b.terms atoms) branch (the_instance b.terms atoms i)
 IsLineBy b atoms t numbers branch (Close at l m) line = line ≡ close_by (atoms_at b.terms atoms) branch
-IsLineBy b atoms t numbers branch (Cut at v on off) line = line ≡ cut_by (atoms_at b.terms atoms) branch v (slice_index_or numbers on 0) (slice_index_or numbers off 0)
+IsLineBy b atoms t numbers branch (Cut at v on off) line =
+    line ≡ cut_by (atoms_at b.terms atoms) branch v (slice_index_or numbers on 0) (slice_index_or numbers off 0)

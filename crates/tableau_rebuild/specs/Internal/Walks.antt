@@ -31,7 +31,10 @@ run ts done (Enter i ∷ tasks) = run ts (with_line done (tree_at ts i)) tasks
 -- the flags tell which lines are listed, and what is left to do makes of these all lines of the walk from the last one
 pub record IsWalkUnderWay (drafts : List Draft) (last : ℕ) (listed : List Bool) (order : List ℕ) (tasks : List Task) : Type 0 where
   pub flags : length listed ≡ length drafts
-  pub marks : (i : ℕ) → i < length drafts → slice_index_or listed i false ≡ list_any (same_line (tree_at (trees drafts) i)) (map (tree_at (trees drafts)) order)
+  pub marks :
+      (i : ℕ)
+      → i < length drafts
+      → slice_index_or listed i false ≡ list_any (same_line (tree_at (trees drafts) i)) (map (tree_at (trees drafts)) order)
   pub in_range : All (λ t. task_number t < length drafts) tasks
   pub inside : (k i : ℕ) → slice_get order k ≡ Some i → i < length drafts
   pub lines : run (trees drafts) (map (tree_at (trees drafts)) order) tasks ≡ walked [] (tree_at (trees drafts) last)

@@ -14,7 +14,11 @@ use Rattle.tableau_rules.specs.declared.spine.Arguments.{Arguments}
 -- no constant whose arguments are compared is the head of both terms with arguments of both
 abbrev pub AreNotCompared : Lambda → Lambda → Type 0
 AreNotCompared s t =
-    (c : Constant) (u v : Lambda) (us vs : List Lambda) → IsDecomposed c → s ≡ applied (constant c) (u ∷ us) → t ≡ applied (constant c) (v ∷ vs) → ⊥
+    (c : Constant) (u v : Lambda) (us vs : List Lambda)
+    → IsDecomposed c
+    → s ≡ applied (constant c) (u ∷ us)
+    → t ≡ applied (constant c) (v ∷ vs)
+    → ⊥
 
 -- both terms are one such constant with arguments at these places
 pub record HaveArguments (b : Content) (s t : Lambda) (left right : List ℕ) : Type 0 where

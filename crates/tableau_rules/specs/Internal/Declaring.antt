@@ -33,8 +33,10 @@ pub record IsWitnessed (b : Content) (p : Principal) (old new : List ℕ) : Type
 
 -- the drafts are the alternatives of the rule's instance over these rows, or it has none over any rows
 abbrev pub DraftedOver : Content → List Row → List Principal → PlainRule → Option (List (List Signed)) → Type 0
-DraftedOver b rows ps rule (Some ds) = AreDraftedWithin b ds × IsInstance (content_scope b) rows (map (principal_at b) ps) rule (alternatives_at b ds)
-DraftedOver b rows ps rule None = (others : List Row) (as' : List (List Literal)) → IsInstance (content_scope b) others (map (principal_at b) ps) rule as' → ⊥
+DraftedOver b rows ps rule (Some ds) =
+    AreDraftedWithin b ds × IsInstance (content_scope b) rows (map (principal_at b) ps) rule (alternatives_at b ds)
+DraftedOver b rows ps rule None =
+    (others : List Row) (as' : List (List Literal)) → IsInstance (content_scope b) others (map (principal_at b) ps) rule as' → ⊥
 
 -- the witnesses where the rule has an instance, and where it has none
 abbrev pub WitnessedWhere : Content → Principal → List ℕ → List ℕ → Option (List (List Signed)) → Type 0

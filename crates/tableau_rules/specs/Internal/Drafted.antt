@@ -37,7 +37,8 @@ AreDraftedWithin b (draft ∷ drafts) = IsDraftedWithin b draft × AreDraftedWit
 
 -- the drafts are the alternatives of the rule's instance with these principals, or it has none
 abbrev pub Drafted : Content → List Row → List Principal → PlainRule → Option (List (List Signed)) → Type 0
-Drafted b rows ps rule (Some ds) = AreDraftedWithin b ds × IsInstance (content_scope b) rows (map (principal_at b) ps) rule (alternatives_at b ds)
+Drafted b rows ps rule (Some ds) =
+    AreDraftedWithin b ds × IsInstance (content_scope b) rows (map (principal_at b) ps) rule (alternatives_at b ds)
 Drafted b rows ps rule None = (as' : List (List Literal)) → IsInstance (content_scope b) rows (map (principal_at b) ps) rule as' → ⊥
 
 -- the signed formula denies that the terms at two places of an earlier bank are equal

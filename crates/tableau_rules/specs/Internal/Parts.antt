@@ -17,12 +17,14 @@ IsSpineOf b t None = (c : Constant) (us : List Lambda) → t ≡ applied (consta
 
 -- the term is an implication with sides at these places, or none
 abbrev pub IsImplicationOf : Content → Lambda → Option Sides → Type 0
-IsImplicationOf b t (Some p) = (t ≡ imp (term_at b.terms p.left) (term_at b.terms p.right)) × (p.left < length b.terms) × (p.right < length b.terms)
+IsImplicationOf b t (Some p) =
+    (t ≡ imp (term_at b.terms p.left) (term_at b.terms p.right)) × (p.left < length b.terms) × (p.right < length b.terms)
 IsImplicationOf b t None = (s u : Lambda) → t ≡ imp s u → ⊥
 
 -- the term is an equation with sides at these places, or none
 abbrev pub IsEquationOf : Content → Lambda → Option Equation → Type 0
-IsEquationOf b t (Some e) = (t ≡ eq (the_type e.ty.now) (term_at b.terms e.left) (term_at b.terms e.right)) × (e.left < length b.terms) × (e.right < length b.terms)
+IsEquationOf b t (Some e) =
+    (t ≡ eq (the_type e.ty.now) (term_at b.terms e.left) (term_at b.terms e.right)) × (e.left < length b.terms) × (e.right < length b.terms)
 IsEquationOf b t None = (a : SimpleType) (s u : Lambda) → t ≡ eq a s u → ⊥
 
 -- the term says that the predicate at this place holds everywhere, or says no such thing

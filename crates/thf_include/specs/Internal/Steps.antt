@@ -16,19 +16,30 @@ pub record AreRead (texts : List (List ℕ)) (opened : Opened) : Type 0 where
   pub bytes : bytes_of texts (length texts) + opened.left ≡ byte_limit
 
 -- the step is done: its statements stand behind those before
-pub record IsDone (R : List (List ℕ) → List (List ℕ) → Ending → Type 0) (texts names : List (List ℕ)) (opened : Opened) (before after : List PlacedTree) : Type 0 where
+pub record IsDone (R : List (List ℕ) → List (List ℕ) → Ending → Type 0) (texts names : List (List ℕ)) (opened : Opened)
+    (before after : List PlacedTree) : Type 0 where
   pub statements : List PlacedTree
   pub ended : R texts names (done statements)
   pub gathered : after ≡ before ++ statements
   pub read : AreRead texts opened
 
 -- how a step ends, by its answer, of which R says which names are opened over which texts
-abbrev pub StepsEndAs : {T : Type 0} → (List (List ℕ) → List (List ℕ) → Ending → Type 0) → List (List ℕ) → List (List ℕ) → Opened → List PlacedTree → List PlacedTree → Result T GatherRefused → Type 0
+abbrev pub StepsEndAs :
+    {T : Type 0}
+    → (List (List ℕ) → List (List ℕ) → Ending → Type 0)
+    → List (List ℕ)
+    → List (List ℕ)
+    → Opened
+    → List PlacedTree
+    → List PlacedTree
+    → Result T GatherRefused
+    → Type 0
 StepsEndAs R texts names opened before after (Ok answer) = IsDone R texts names opened before after
 StepsEndAs R texts names opened before after (Err refused) = StopsAs (λ why. R texts names (stopped why)) (names ≡ []) opened.names refused
 
 -- A step behind these texts opens files and reads further texts. R says how it ends.
-pub record IsStep {T : Type 0} (seen : Seen) (R : List (List ℕ) → List (List ℕ) → Ending → Type 0) (texts : List (List ℕ)) (old new : Opened) (before after : List PlacedTree) (answer : Result T GatherRefused) : Type 0 where
+pub record IsStep {T : Type 0} (seen : Seen) (R : List (List ℕ) → List (List ℕ) → Ending → Type 0) (texts : List (List ℕ))
+    (old new : Opened) (before after : List PlacedTree) (answer : Result T GatherRefused) : Type 0 where
   pub more : List (List ℕ)
   pub names : List (List ℕ)
   pub opened : new.names ≡ old.names ++ names
@@ -36,19 +47,48 @@ pub record IsStep {T : Type 0} (seen : Seen) (R : List (List ℕ) → List (List
   pub ends : StepsEndAs R (texts ++ more) names new before after answer
 
 -- the step of a file with this name, which is the next to be opened
-abbrev pub FileSteps : {T : Type 0} → Seen → List (List ℕ) → List ℕ → Opened → Opened → List PlacedTree → List PlacedTree → Result T GatherRefused → Type 0
+abbrev pub FileSteps :
+    {T : Type 0} → Seen → List (List ℕ) → List ℕ → Opened → Opened → List PlacedTree → List PlacedTree → Result T GatherRefused → Type 0
 FileSteps seen chain name old new before after answer =
-    (texts : List (List ℕ)) → AreRead texts old → IsStep seen (λ all names ending. FileEnds all chain (length old.names) name names ending) texts old new before after answer
+    (texts : List (List ℕ))
+    → AreRead texts old
+    → IsStep seen (λ all names ending. FileEnds all chain (length old.names) name names ending) texts old new before after answer
 
 -- the step of a statement in the file with this number
-abbrev pub StatementSteps : {T : Type 0} → Seen → List (List ℕ) → ℕ → StatementTree → Opened → Opened → List PlacedTree → List PlacedTree → Result T GatherRefused → Type 0
+abbrev pub StatementSteps :
+    {T : Type 0}
+    → Seen
+    → List (List ℕ)
+    → ℕ
+    → StatementTree
+    → Opened
+    → Opened
+    → List PlacedTree
+    → List PlacedTree
+    → Result T GatherRefused
+    → Type 0
 StatementSteps seen chain file s old new before after answer =
-    (texts : List (List ℕ)) → AreRead texts old → IsStep seen (λ all names ending. StatementEnds all chain file (length old.names) s names ending) texts old new before after answer
+    (texts : List (List ℕ))
+    → AreRead texts old
+    → IsStep seen (λ all names ending. StatementEnds all chain file (length old.names) s names ending) texts old new before after answer
 
 -- the step of statements in the file with this number
-abbrev pub StatementsStep : {T : Type 0} → Seen → List (List ℕ) → ℕ → List StatementTree → Opened → Opened → List PlacedTree → List PlacedTree → Result T GatherRefused → Type 0
+abbrev pub StatementsStep :
+    {T : Type 0}
+    → Seen
+    → List (List ℕ)
+    → ℕ
+    → List StatementTree
+    → Opened
+    → Opened
+    → List PlacedTree
+    → List PlacedTree
+    → Result T GatherRefused
+    → Type 0
 StatementsStep seen chain file tree old new before after answer =
-    (texts : List (List ℕ)) → AreRead texts old → IsStep seen (λ all names ending. StatementsEnd all chain file (length old.names) tree names ending) texts old new before after answer
+    (texts : List (List ℕ))
+    → AreRead texts old
+    → IsStep seen (λ all names ending. StatementsEnd all chain file (length old.names) tree names ending) texts old new before after answer
 
 -- what is selected stands behind the statements before
 pub record IsSelected (ending : Ending) (before after : List PlacedTree) : Type 0 where

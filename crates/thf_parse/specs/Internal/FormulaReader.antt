@@ -124,7 +124,8 @@ links inside c t ts = links_by inside c t (first_terminal ts) ts
 
 -- the next argument, and those behind it
 abbrev pub next_argument : Inside → FormulaTree → Reader FormulaTree
-next_argument inside t ts = enter inside ts (λ r. r.operand (lexemes_behind ts) >>= λ u rest. r.arguments (application (place_of_first ts) t u) rest)
+next_argument inside t ts =
+    enter inside ts (λ r. r.operand (lexemes_behind ts) >>= λ u rest. r.arguments (application (place_of_first ts) t u) rest)
 
 abbrev pub arguments_by : Inside → FormulaTree → Terminal → Reader FormulaTree
 arguments_by inside t (terminal.Mark At) ts = next_argument inside t ts
@@ -135,7 +136,8 @@ arguments_behind inside t ts = arguments_by inside t (first_terminal ts) ts
 
 -- the argument of `!!` or `??`, from its `@` on
 abbrev pub quantified_reader : Inside → Bool → Terminal → Reader FormulaTree
-quantified_reader inside all (terminal.Mark At) ts = enter inside ts (λ r. r.operand (lexemes_behind ts) >>= λ u rest. r.arguments (quantified (place_of_first ts) all u) rest)
+quantified_reader inside all (terminal.Mark At) ts =
+    enter inside ts (λ r. r.operand (lexemes_behind ts) >>= λ u rest. r.arguments (quantified (place_of_first ts) all u) rest)
 quantified_reader inside all _ ts = wrong ts
 
 unfoldable pub quantified_at : Inside → Bool → Reader FormulaTree

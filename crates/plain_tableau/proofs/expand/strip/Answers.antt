@@ -3,7 +3,7 @@ use Rattle.std.proofs.lemmas.Result.{IfOk-weaker}
 use Rattle.stt_core.specs.Lambda.{Lambda}
 use Rattle.stt_core.specs.Typing.{Scope}
 use Rattle.tableau_calculus.specs.Literals.{Literal}
-use Rattle.tableau_calculus.specs.Witnesses.{Row, with_rows}
+use Rattle.tableau_calculus.specs.Witnesses.{Row}
 use Rattle.tableau_calculus.specs.Accepted.{Within, IsAccepted}
 use Rattle.tableau_calculus.specs.Closed.{Closes, tableau_of}
 use Rattle.tableau_calculus.proofs.Soundness.{accepted_closes_start}
@@ -30,7 +30,7 @@ module _ (scope : Scope) (rows : List Row) (atoms : List Lambda) (used : List (T
   all_accepted law given within (Open branch) h = tt
   all_accepted law given within (Over n) h = tt
 
-  all_closed : (s : Stripped) → OfTree (IsAccepted scope wider) s → OfTree (λ refutation. Closes (with_rows scope refutation.witnesses) refutation.witnesses (tableau_of refutation) wider) s
+  all_closed : (s : Stripped) → OfTree (IsAccepted scope wider) s → OfTree (λ refutation. Closes scope refutation.witnesses (tableau_of refutation) wider) s
   all_closed (Whole refutation n) h = accepted_closes_start scope wider refutation h
   all_closed (Open branch) h = tt
   all_closed (Over n) h = tt

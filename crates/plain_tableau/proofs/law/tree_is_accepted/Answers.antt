@@ -1,5 +1,5 @@
 use Rattle.std.proofs.Common.{◌+◌, length, [], ◌∷◌, ◌++◌, ◌≡◌, refl, sym, ap, ◌∙◌, subst, arith}
-use Rattle.tableau_calculus.specs.Accepted.{Within, AreRightLines, EndsWithin}
+use Rattle.tableau_calculus.specs.Accepted.{Within, AreRightAfter, AreRightLines, EndsWithin}
 use Rattle.tableau_calculus.specs.Witnesses.{with_rows, IsTable}
 use Rattle.tableau_calculus.proofs.Soundness.{accepted_closes_start}
 use Rattle.tableau_calculus.proofs.ListLaws.{within-itself}
@@ -23,11 +23,11 @@ accepted = λ scope rows atoms used limit start t refutation given expansion is.
     let wide = with_rows scope rows in
     let whole = expansion_whole wide rows atoms used given.instances limit start (found t) expansion t refl in
     let n = rows_for_lines rows refutation.lines in
-    let right = subst (AreRightLines wide rows []) (sym is.lines) (lines_right wide rows atoms given.formulas [] 0 refl t start whole.grown) in
+    let right = subst (AreRightAfter wide rows []) (sym is.lines) (lines_right wide rows atoms given.formulas [] 0 refl t start whole.grown) in
     let kept = lines_kept scope rows n given.table [] refutation.lines (omega arith) right in
     record {
       table = subst (IsTable scope) (sym is.needed) (table_kept scope rows n given.table);
-      lines = subst (λ rs. AreRightLines (with_rows scope rs) rs [] refutation.lines) (sym is.needed) kept;
+      lines = subst (λ rs. AreRightLines scope rs refutation.lines) (sym is.needed) kept;
       last = record {
         front = lines_for_trees atoms 0 whole.children;
         last = node_line atoms whole.instance start (tree_children 0 whole.children);

@@ -1,5 +1,4 @@
-use Rattle.std.proofs.Common.{true, false, sym, ap, ap₂, ◌∙◌, true≢false}
-use Rattle.stt_core.specs.Lambda.{falsity, constant, imp}
+use Rattle.std.proofs.Common.{true, false, sym, ap₂, ◌∙◌, true≢false}
 use Rattle.search_spec.specs.Processing.{connective_rule}
 use Rattle.prover_search.proofs.ConnectiveLaws.{named, without_connective}
 use Rattle.prover_search.proofs.connective.connective_rule.Goals as goal

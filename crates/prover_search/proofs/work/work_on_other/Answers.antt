@@ -1,6 +1,5 @@
 use Rattle.std.proofs.Common.{refl, sym, ap, ◌∙◌, subst}
 use Rattle.tableau_calculus.specs.Literals.{Literal}
-use Rattle.tableau_calculus.specs.declared.rule_use.OnePlace.{OnePlace}
 use Rattle.literal_map.specs.Atoms.{bank_literal}
 use Rattle.search_spec.specs.Processing.{connective_rule}
 use Rattle.search_spec.specs.State.{State, Setting}

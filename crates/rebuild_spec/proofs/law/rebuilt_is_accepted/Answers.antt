@@ -1,6 +1,6 @@
 use Rattle.std.proofs.Common.{[], sym, subst, arith}
 use Rattle.tableau_calculus.specs.Accepted.{AreRightLines, EndsWithin}
-use Rattle.tableau_calculus.specs.Witnesses.{with_rows, IsTable}
+use Rattle.tableau_calculus.specs.Witnesses.{IsTable}
 use Rattle.rebuild_spec.specs.NeededRows.{rows_for_lines}
 use Rattle.tableau_calculus.proofs.Soundness.{accepted_closes_start}
 use Rattle.rebuild_spec.specs.Trees.{at_result}
@@ -13,11 +13,11 @@ accepted : RebuiltIsAccepted
 accepted = λ scope start input refutation given is.
     let n = rows_for_lines input.rows refutation.lines in
     let place = at_result is.number in
-    let right = subst (AreRightLines (with_rows scope input.rows) input.rows []) (sym is.lines) (rebuilt_right scope start input given place is.last is.stands) in
+    let right = subst (AreRightLines scope input.rows) (sym is.lines) (rebuilt_right scope start input given place is.last is.stands) in
     let kept = lines_kept scope input.rows n given.table [] refutation.lines (omega arith) right in
     record {
       table = subst (IsTable scope) (sym is.rows) (table_kept scope input.rows n given.table);
-      lines = subst (λ rows. AreRightLines (with_rows scope rows) rows [] refutation.lines) (sym is.rows) kept;
+      lines = subst (λ rows. AreRightLines scope rows refutation.lines) (sym is.rows) kept;
       last = subst (EndsWithin start) (sym is.lines) (rebuilt_ends scope start input given place is.last is.stands);
     }
 

@@ -1,5 +1,4 @@
 use Rattle.std.proofs.Common.{◌≡◌, true, [], map, take}
-use Rattle.tableau_calculus.specs.Witnesses.{with_rows}
 use Rattle.tableau_calculus.specs.Accepted.{AreRightLines}
 use Rattle.tableau_calculus.specs.CutFree.{HasNoCut}
 use Rattle.refute_print.specs.TextView.{the_line}
@@ -15,6 +14,6 @@ invariant-loop-i l =
     let lines = take l.i (map (numbered_line l.numbering) (map the_line l.text.lines)) in
     IsGoodShared l.shared × (the_rows l.shared ≡ rows) × (declared_in l.shared ≡ declared_in l.fn.shared) × Grow (shared_atoms l.fn.shared) (shared_atoms l.shared)
     × AreBranches (shared_atoms l.shared) lines l.lines.branches.items
-    × AreRightLines (with_rows (declared_in l.fn.shared) rows) rows [] lines
+    × AreRightLines (declared_in l.fn.shared) rows lines
     × IsSeen l.numbering l.shared l.seen
     × (l.strict ≡ true → HasNoCut lines)
