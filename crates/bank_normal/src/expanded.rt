@@ -77,7 +77,8 @@ fn lowered(by: u32, head: Head) -> Option<Head>
 fn are_closed(bank: &Bank, n: usize, ids: &Ids) -> bool
     requires count { n ≤ length ids.now }
     requires within { All (λ id. id < length bank.now.terms) ids.now }
-    ensures { (by : ℕ) → IsTrue result → map (lift_by by 0) (take n (map (term_at bank.now.terms) ids.now)) ≡ take n (map (term_at bank.now.terms) ids.now) }
+    ensures { (by : ℕ) → IsTrue result → map (lift_by by 0) (take n (map (term_at bank.now.terms) ids.now)) ≡ take n
+        (map (term_at bank.now.terms) ids.now) }
 {
     for i in 0..n {
         if !bank.is_closed(ids.at(i)) {
@@ -153,7 +154,9 @@ impl Normaliser {
         requires within { All (λ id. id < length bank.old.terms) args.now }
         requires fits { AppliesAllIn (content_scope bank.old) (term_at bank.old.terms f) (map (term_at bank.old.terms) args.now) }
         requires right { IsRightNormaliser self.old bank.old }
-        ensures term { IfOk result (λ o. IfSome o (λ made. HasTerm bank.new made (apply_each (term_at bank.old.terms f) (map (term_at bank.old.terms) args.now)))) }
+        ensures term { IfOk result
+            (λ o. IfSome o
+            (λ made. HasTerm bank.new made (apply_each (term_at bank.old.terms f) (map (term_at bank.old.terms) args.now)))) }
         ensures grows { Grows bank.old bank.new }
         ensures right { IsRightNormaliser self.new bank.new }
     {
@@ -189,7 +192,9 @@ impl Normaliser {
         requires within { All (λ id. id < length bank.old.terms) args.now }
         requires fits { AppliesAllIn (content_scope bank.old) (term_at bank.old.terms f) (map (term_at bank.old.terms) args.now) }
         requires right { IsRightNormaliser self.old bank.old }
-        ensures term { IfOk result (λ o. IfSome o (λ made. HasTerm bank.new made (apply_each (term_at bank.old.terms f) (map (term_at bank.old.terms) args.now)))) }
+        ensures term { IfOk result
+            (λ o. IfSome o
+            (λ made. HasTerm bank.new made (apply_each (term_at bank.old.terms f) (map (term_at bank.old.terms) args.now)))) }
         ensures grows { Grows bank.old bank.new }
         ensures right { IsRightNormaliser self.new bank.new }
     {

@@ -71,7 +71,9 @@ impl Normaliser {
         requires typed { IsSome (type_of (content_scope bank.old) [] (the_term term.now)) }
         requires forms { AreForms bank.old forms.now }
         requires right { IsRightNormaliser self.old bank.old }
-        ensures term { IfOk result (λ id. HasTerm bank.new id (normal_form_by (content_scope bank.old) (forms_in bank.old.terms forms.now) [] (the_term term.now))) }
+        ensures term { IfOk result
+            (λ id. HasTerm bank.new id (normal_form_by (content_scope bank.old) (forms_in bank.old.terms forms.now) []
+            (the_term term.now))) }
         ensures grows { Grows bank.old bank.new }
         ensures right { IsRightNormaliser self.new bank.new }
     {
@@ -92,9 +94,12 @@ impl Normaliser {
     ) -> Result<Id, AllocError>
         requires leaf { IsLeaf (the_term term.now) }
         requires within { All (λ id. id < length bank.old.terms) args }
-        requires fits { IsApplicable (content_scope bank.old) (the_context ctx.now) (the_term term.now) (map (term_at bank.old.terms) args) }
+        requires fits { IsApplicable (content_scope bank.old) (the_context ctx.now) (the_term term.now)
+            (map (term_at bank.old.terms) args) }
         requires right { IsRightNormaliser self.old bank.old }
-        ensures term { IfOk result (λ id. HasTerm bank.new id (apply_each (normal_form (content_scope bank.old) (the_context ctx.now) (the_term term.now)) (map (term_at bank.old.terms) args))) }
+        ensures term { IfOk result
+            (λ id. HasTerm bank.new id (apply_each (normal_form (content_scope bank.old) (the_context ctx.now) (the_term term.now))
+            (map (term_at bank.old.terms) args))) }
         ensures grows { Grows bank.old bank.new }
         ensures right { IsRightNormaliser self.new bank.new }
     {
@@ -122,9 +127,13 @@ impl Normaliser {
         requires leaf { IsLeaf (the_term term.now) }
         requires within { All (λ id. id < length bank.old.terms) args }
         requires forms { AreForms bank.old forms.now }
-        requires fits { IsApplicable (content_scope bank.old) (the_context ctx.now) (unfolded (forms_in bank.old.terms forms.now) (the_term term.now)) (map (term_at bank.old.terms) args) }
+        requires fits { IsApplicable (content_scope bank.old) (the_context ctx.now)
+            (unfolded (forms_in bank.old.terms forms.now) (the_term term.now)) (map (term_at bank.old.terms) args) }
         requires right { IsRightNormaliser self.old bank.old }
-        ensures term { IfOk result (λ id. HasTerm bank.new id (apply_each (normal_form (content_scope bank.old) (the_context ctx.now) (unfolded (forms_in bank.old.terms forms.now) (the_term term.now))) (map (term_at bank.old.terms) args))) }
+        ensures term { IfOk result
+            (λ id. HasTerm bank.new id
+            (apply_each (normal_form (content_scope bank.old) (the_context ctx.now)
+            (unfolded (forms_in bank.old.terms forms.now) (the_term term.now))) (map (term_at bank.old.terms) args))) }
         ensures grows { Grows bank.old bank.new }
         ensures right { IsRightNormaliser self.new bank.new }
     {
@@ -145,9 +154,13 @@ impl Normaliser {
     ) -> Result<Id, AllocError>
         requires within { All (λ id. id < length bank.old.terms) args }
         requires forms { AreForms bank.old forms.now }
-        requires fits { IsApplicable (content_scope bank.old) (the_context ctx.now) (unfolded (forms_in bank.old.terms forms.now) (the_term term.now)) (map (term_at bank.old.terms) args) }
+        requires fits { IsApplicable (content_scope bank.old) (the_context ctx.now)
+            (unfolded (forms_in bank.old.terms forms.now) (the_term term.now)) (map (term_at bank.old.terms) args) }
         requires right { IsRightNormaliser self.old bank.old }
-        ensures term { IfOk result (λ id. HasTerm bank.new id (apply_each (normal_form (content_scope bank.old) (the_context ctx.now) (unfolded (forms_in bank.old.terms forms.now) (the_term term.now))) (map (term_at bank.old.terms) args))) }
+        ensures term { IfOk result
+            (λ id. HasTerm bank.new id
+            (apply_each (normal_form (content_scope bank.old) (the_context ctx.now)
+            (unfolded (forms_in bank.old.terms forms.now) (the_term term.now))) (map (term_at bank.old.terms) args))) }
         ensures grows { Grows bank.old bank.new }
         ensures right { IsRightNormaliser self.new bank.new }
     {

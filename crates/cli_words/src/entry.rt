@@ -92,7 +92,8 @@ fn option_with_problem<'a>(
     value: &'a str,
     problem: &'a str,
 ) -> Option<Asked<'a>>
-    ensures { option_map the_request result ≡ asked (the_entry (Entry.Value option value.entry) ∷ the_entry (Entry.Problem problem.entry) ∷ []) }
+    ensures { option_map the_request result ≡ asked (the_entry (Entry.Value option value.entry) ∷ the_entry (Entry.Problem problem.entry)
+        ∷ []) }
 {
     match option {
         OptionName::Mode => prove_with_mode(value, problem),
@@ -120,7 +121,8 @@ fn prove<'a>(problem: &'a str) -> Option<Asked<'a>>
 }
 
 fn prove_with_mode<'a>(mode: &'a str, problem: &'a str) -> Option<Asked<'a>>
-    ensures { option_map the_request result ≡ naming (mode.entry.now ∷ problem.entry.now ∷ []) (prove problem.entry.now (Some mode.entry.now) None) }
+    ensures { option_map the_request result ≡ naming (mode.entry.now ∷ problem.entry.now ∷ [])
+        (prove problem.entry.now (Some mode.entry.now) None) }
 {
     if is_file_name(mode) && is_file_name(problem) {
         Some(Asked::Prove {
@@ -154,7 +156,8 @@ fn prove_with_tree<'a>(nodes: &str, mode: Option<&'a str>, problem: &'a str) -> 
 }
 
 fn prove_by_schedule<'a>(schedule: &'a str, problem: &'a str) -> Option<Asked<'a>>
-    ensures { option_map the_request result ≡ naming (schedule.entry.now ∷ problem.entry.now ∷ []) (by_schedule schedule.entry.now problem.entry.now) }
+    ensures { option_map the_request result ≡ naming (schedule.entry.now ∷ problem.entry.now ∷ [])
+        (by_schedule schedule.entry.now problem.entry.now) }
 {
     if is_file_name(schedule) && is_file_name(problem) {
         Some(Asked::BySchedule { schedule, problem })

@@ -63,7 +63,8 @@ fn matches_in<'a>(alloc: Global, words: &'a [String]) -> Result<ArgMatches<'a>, 
 }
 
 fn add<'a>(entries: &mut Vec<Entry<'a>>, entry: Option<Entry<'a>>) -> Result<(), AllocError>
-    ensures { OnOk result (map the_entry entries.new.items ≡ map the_entry entries.old.items ++ option_to_list (option_map the_entry entry.entry)) }
+    ensures { OnOk result (map the_entry entries.new.items ≡ map the_entry entries.old.items ++ option_to_list
+        (option_map the_entry entry.entry)) }
 {
     if let Some(entry) = entry {
         entries.push(entry)?;

@@ -72,7 +72,8 @@ fn add_name(names: &mut BTreeSet<u32>, place: u32) -> Result<(), AllocError>
 
 /// Adds the names that occur in a term to a set.
 fn add_names(names: &mut BTreeSet<u32>, term: &Term) -> Result<(), AllocError>
-    ensures { OnOk result ((k : ℕ) → contains nat_cmp names.new k ≡ (occurs_in (name k) (the_term term.now) || contains nat_cmp names.old k)) }
+    ensures { OnOk result
+        ((k : ℕ) → contains nat_cmp names.new k ≡ (occurs_in (name k) (the_term term.now) || contains nat_cmp names.old k)) }
 {
     match term {
         Term::Name(place) => add_name(names, *place),

@@ -31,7 +31,8 @@ impl Sorted {
     /// Takes the next formula's definition, or leaves the formula.
     fn with(self, alloc: Global, mark: bool, formula: &Term) -> Result<Sorted, AllocError>
         ensures definitions { IfOk result (λ s. s.definitions ≡ with_next self.definitions mark (the_term formula.now)) }
-        ensures left { IfOk result (λ s. s.left ≡ self.left ++ unless_taken (is_taken_from self.definitions mark (the_term formula.now)) (the_term formula.now) []) }
+        ensures left { IfOk result (λ s. s.left ≡ self.left ++ unless_taken (is_taken_from self.definitions mark (the_term formula.now))
+            (the_term formula.now) []) }
     {
         let Sorted {
             definitions,

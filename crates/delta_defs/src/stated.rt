@@ -46,7 +46,8 @@ fn following(
     place: u32,
     body: &Term,
 ) -> Result<Option<Taken>, AllocError>
-    ensures { IfOk result (λ o. option_map the_definition o ≡ if_it_may_follow definitions.now (in_terms_of definitions.now (record { place = place; term = the_term body.now }))) }
+    ensures { IfOk result (λ o. option_map the_definition o ≡ if_it_may_follow definitions.now
+        (in_terms_of definitions.now (record { place = place; term = the_term body.now }))) }
 {
     if without_unfolded(body, definitions, NODE_LIMIT + 1) == 0 || definitions.have(place) {
         return Ok(None);

@@ -25,8 +25,8 @@ FormsFollow =
     (scope : Scope) (ds : List Definition) (d : Definition)
     → AreTypedDefinitions scope ds
     → normal_definitions scope (ds ++ in_terms_of ds d ∷ [])
-            ≡ normal_definitions scope ds
-                ++ record { place = d.place; term = normal_form_by scope (normal_definitions scope ds) [] d.term } ∷ []
+    ≡ normal_definitions scope ds
+    ++ record { place = d.place; term = normal_form_by scope (normal_definitions scope ds) [] d.term } ∷ []
 
 -- the definitions that are taken from typed formulas have canonical normal forms, of the types of the names
 abbrev pub TakenFormsAreCanonical : Type 0

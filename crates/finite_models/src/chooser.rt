@@ -100,7 +100,8 @@ impl Choosers {
 
     /// The place at which the same one stands first.
     pub fn place_of(&self, chooser: &Chooser) -> Option<usize>
-        ensures { MatchOption result (IsNoPlace (the_chooser chooser.now) self.now) (λ i. IsFirstPlace (the_chooser chooser.now) self.now i) }
+        ensures { MatchOption result (IsNoPlace (the_chooser chooser.now) self.now)
+            (λ i. IsFirstPlace (the_chooser chooser.now) self.now i) }
     {
         for i in 0..self.len() {
             if chooser.same(self.at(i)) {

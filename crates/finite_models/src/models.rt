@@ -103,7 +103,8 @@ fn type_in(chooser: &Chooser) -> &Ty
 fn chooser_size(a: &Ty, s: u32) -> Option<u32>
     requires s_pos { 1 ≤ s }
     requires s_few { s ≤ 8 }
-    ensures { MatchOption result (IsSmallType s (arrow (predicate (the_type a.now)) (the_type a.now)) → ⊥) (λ n. IsSizeOf s (arrow (predicate (the_type a.now)) (the_type a.now)) n) }
+    ensures { MatchOption result (IsSmallType s (arrow (predicate (the_type a.now)) (the_type a.now)) → ⊥)
+        (λ n. IsSizeOf s (arrow (predicate (the_type a.now)) (the_type a.now)) n) }
 {
     match small_size(a, s) {
         None => None,
@@ -119,7 +120,8 @@ fn symbol_size(sig: &Signature, choosers: &Choosers, i: usize, s: u32) -> Option
     requires s_pos { 1 ≤ s }
     requires s_few { s ≤ 8 }
     requires within { i < length (symbols_with (the_scope sig.now []) choosers.now) }
-    ensures { MatchOption result (At (symbols_with (the_scope sig.now []) choosers.now) i (λ x. IsSmallType s x.type → ⊥)) (λ n. At (symbols_with (the_scope sig.now []) choosers.now) i (λ x. IsSizeOf s x.type n)) }
+    ensures { MatchOption result (At (symbols_with (the_scope sig.now []) choosers.now) i (λ x. IsSmallType s x.type → ⊥))
+        (λ n. At (symbols_with (the_scope sig.now []) choosers.now) i (λ x. IsSizeOf s x.type n)) }
 {
     let declared = sig.consts.len();
     if i < declared {
@@ -153,7 +155,8 @@ fn sizes_of(
 ) -> Result<Option<Vec<u32>>, AllocError>
     requires s_pos { 1 ≤ s }
     requires s_few { s ≤ 8 }
-    ensures { IfOk result (λ o. MatchOption o (EachIsSmall s (symbols_with (the_scope sig.now []) choosers.now) → ⊥) (λ v. AreSizes s (symbols_with (the_scope sig.now []) choosers.now) v.items)) }
+    ensures { IfOk result (λ o. MatchOption o (EachIsSmall s (symbols_with (the_scope sig.now []) choosers.now) → ⊥)
+        (λ v. AreSizes s (symbols_with (the_scope sig.now []) choosers.now) v.items)) }
 {
     let mut sizes = Vec::new(alloc);
     let count = count_of(sig, choosers)?;
@@ -351,7 +354,8 @@ fn look_through(
     requires ground { IsGround (the_scope sig.now []) s choosers.now }
     requires formulas { CanCompileEach (the_scope sig.now []) s choosers.now formulas.now }
     requires sizes { AreSizes s (symbols_with (the_scope sig.now []) choosers.now) sizes.now }
-    ensures { IfOk result (λ o. MatchOption o (NonePasses (the_scope sig.now []) s choosers.now assumed formulas.now) (λ v. FirstPasses (the_scope sig.now []) s choosers.now assumed formulas.now v.items)) }
+    ensures { IfOk result (λ o. MatchOption o (NonePasses (the_scope sig.now []) s choosers.now assumed formulas.now)
+        (λ v. FirstPasses (the_scope sig.now []) s choosers.now assumed formulas.now v.items)) }
 {
     let domains = domains_of(alloc, sig, choosers, s, sizes)?;
     let checks = checks_for(alloc, sig, formulas, choosers, assumed, s)?;

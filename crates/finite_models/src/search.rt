@@ -209,7 +209,8 @@ pub fn first_sorted(
 ) -> Result<Option<Vec<u32>>, AllocError>
     requires few { AreFewValues domains.now }
     requires ready { (vs : List ℕ) → AreAllowed domains.now vs → AreReady checks.items vs }
-    ensures { IfOk result (λ o. MatchOption o (NoListPasses domains.now checks.items) (λ v. IsFirstPassing domains.now checks.items v.items)) }
+    ensures { IfOk result (λ o. MatchOption o (NoListPasses domains.now checks.items)
+        (λ v. IsFirstPassing domains.now checks.items v.items)) }
 {
     let mut sorted = checks;
     sorted.sort_unstable_by_key(|check| check.reach);

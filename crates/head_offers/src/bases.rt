@@ -16,7 +16,8 @@ use term_bank::{Bank, Id, Node};
 /// Marks the base types in a type.
 fn mark_bases(flags: &mut Vec<bool>, ty: &Ty)
     ensures length { length flags.new.items ≡ length flags.old.items }
-    ensures flags { (n : ℕ) → n < length flags.old.items → is_flagged flags.new.items n ≡ (is_flagged flags.old.items n || has_base n (the_type ty.now)) }
+    ensures flags { (n : ℕ) → n < length flags.old.items → is_flagged flags.new.items n
+        ≡ (is_flagged flags.old.items n || has_base n (the_type ty.now)) }
 {
     match ty {
         Ty::Base(n) => mark(flags, *n as usize),
@@ -48,7 +49,8 @@ fn ranged_type(head: &Head) -> Option<&Ty>
 /// The type of a constant at the head of a term, as far as its base types are looked at.
 fn type_at(bank: &Bank, id: Id) -> Option<&Ty>
     requires { id < length bank.now.terms }
-    ensures { (n : ℕ) → head_passes (is_over (map (λ c. c.type) bank.now.consts) n) (term_at bank.now.terms id) ≡ has_base_if_any n (option_map (λ ty. the_type ty.now) result) }
+    ensures { (n : ℕ) → head_passes (is_over (map (λ c. c.type) bank.now.consts) n) (term_at bank.now.terms id) ≡ has_base_if_any n
+        (option_map (λ ty. the_type ty.now) result) }
 {
     match bank.node(id) {
         Node::Lam { ty: _, body: _ } => None,
@@ -63,7 +65,8 @@ fn type_at(bank: &Bank, id: Id) -> Option<&Ty>
 fn mark_at(flags: &mut Vec<bool>, bank: &Bank, id: Id)
     requires { id < length bank.now.terms }
     ensures length { length flags.new.items ≡ length flags.old.items }
-    ensures flags { (n : ℕ) → n < length flags.old.items → is_flagged flags.new.items n ≡ (is_flagged flags.old.items n || head_passes (is_over (map (λ c. c.type) bank.now.consts) n) (term_at bank.now.terms id)) }
+    ensures flags { (n : ℕ) → n < length flags.old.items → is_flagged flags.new.items n
+        ≡ (is_flagged flags.old.items n || head_passes (is_over (map (λ c. c.type) bank.now.consts) n) (term_at bank.now.terms id)) }
 {
     match type_at(bank, id) {
         Some(ty) => mark_bases(flags, ty),
@@ -80,7 +83,8 @@ pub(crate) fn bases_at_heads(
 ) -> Result<Vec<bool>, AllocError>
     requires within { All (λ id. id < length bank.now.terms) found.now }
     ensures length { IfOk result (λ flags. length flags.items ≡ count) }
-    ensures flags { (n : ℕ) → n < count → IfOk result (λ flags. is_flagged flags.items n ≡ any_passes bank.now.terms (is_over (map (λ c. c.type) bank.now.consts) n) found.now) }
+    ensures flags { (n : ℕ) → n < count → IfOk result (λ flags. is_flagged flags.items n ≡ any_passes bank.now.terms
+        (is_over (map (λ c. c.type) bank.now.consts) n) found.now) }
 {
     let mut flags = vec![in alloc; false; count]?;
     for i in 0..found.len() {

@@ -44,7 +44,8 @@ fn name_at(bank: &Bank, id: Id) -> Option<u32>
 /// Marks a name, where there is one.
 fn mark_name(flags: &mut Vec<bool>, name: Option<u32>)
     ensures length { length flags.new.items ≡ length flags.old.items }
-    ensures flags { (k : ℕ) → k < length flags.old.items → is_flagged flags.new.items k ≡ (is_flagged flags.old.items k || is_number k name) }
+    ensures flags { (k : ℕ) → k < length flags.old.items → is_flagged flags.new.items k
+        ≡ (is_flagged flags.old.items k || is_number k name) }
 {
     match name {
         Some(k) => mark(flags, k as usize),
@@ -61,7 +62,8 @@ pub(crate) fn names_at_heads(
 ) -> Result<Vec<bool>, AllocError>
     requires within { All (λ id. id < length bank.now.terms) found.now }
     ensures length { IfOk result (λ flags. length flags.items ≡ count) }
-    ensures flags { (k : ℕ) → k < count → IfOk result (λ flags. is_flagged flags.items k ≡ any_passes bank.now.terms (is_name k) found.now) }
+    ensures flags { (k : ℕ) → k < count → IfOk result (λ flags. is_flagged flags.items k ≡ any_passes bank.now.terms (is_name k)
+        found.now) }
 {
     let mut flags = vec![in alloc; false; count]?;
     for i in 0..found.len() {

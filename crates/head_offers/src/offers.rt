@@ -49,7 +49,8 @@ pub fn offered_heads(
     start: &[Id],
 ) -> Result<Offers, AllocError>
     requires within { All (λ id. id < length bank.now.terms) start.now }
-    ensures { IfOk result (λ offers. the_offers offers ≡ offered_where mode.now (content_scope bank.now) (occurs_among (map (term_at bank.now.terms) start.now))) }
+    ensures { IfOk result (λ offers. the_offers offers ≡ offered_where mode.now (content_scope bank.now)
+        (occurs_among (map (term_at bank.now.terms) start.now))) }
 {
     let names = bank.sig().consts.len();
     let bases = two_more(bank.sig().bases.len())?;

@@ -24,7 +24,8 @@ fn id_at(n: usize) -> Result<Id, AllocError>
 pub(crate) fn reached(alloc: Global, bank: &Bank, start: &[Id]) -> Result<Vec<Id>, AllocError>
     requires within { All (λ id. id < length bank.now.terms) start.now }
     ensures within { IfOk result (λ found. All (λ id. id < length bank.now.terms) found.items) }
-    ensures heads { (test : Constant → Bool) → IfOk result (λ found. any_passes bank.now.terms test found.items ≡ occurs_among (map (term_at bank.now.terms) start.now) test) }
+    ensures heads { (test : Constant → Bool) → IfOk result (λ found. any_passes bank.now.terms test found.items ≡ occurs_among
+        (map (term_at bank.now.terms) start.now) test) }
 {
     let count = bank.len();
     let mut marks = vec![in alloc; false; count]?;

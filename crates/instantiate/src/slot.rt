@@ -27,7 +27,8 @@ pub(crate) fn slot_in(
     partial: &Partial,
     head: &Head,
 ) -> Result<Option<Slot>, AllocError>
-    ensures { IfOk result (λ o. option_map the_slot o ≡ option_map (slot_of (content_scope bank.now) (the_head head.now)) (first_hole (the_context ctx.now) partial.now)) }
+    ensures { IfOk result (λ o. option_map the_slot o ≡ option_map (slot_of (content_scope bank.now) (the_head head.now))
+        (first_hole (the_context ctx.now) partial.now)) }
 {
     match &partial.node {
         PartialNode::Hole(base) => Ok(Some(Slot {
@@ -50,7 +51,8 @@ fn slot_among(
     partials: &Partials,
     head: &Head,
 ) -> Result<Option<Slot>, AllocError>
-    ensures { IfOk result (λ o. option_map the_slot o ≡ option_map (slot_of (content_scope bank.now) (the_head head.now)) (first_among (the_context ctx.now) partials.now)) }
+    ensures { IfOk result (λ o. option_map the_slot o ≡ option_map (slot_of (content_scope bank.now) (the_head head.now))
+        (first_among (the_context ctx.now) partials.now)) }
 {
     for i in 0..partials.len() {
         match slot_in(bank, ctx, partials.at(i), head)? {

@@ -104,7 +104,8 @@ impl LitTable {
         requires atoms { All (IsAtom bank.now) self.now }
         ensures number { IfSome result (λ l. l.var.0 < length self.now) }
         ensures literal { IfSome result (λ l. bank_literal bank.now.terms self.now l ≡ as_literal (term_at bank.now.terms id)) }
-        ensures none { IfNone result ((l : SatLit) → l.var.0 < length self.now → bank_literal bank.now.terms self.now l ≡ as_literal (term_at bank.now.terms id) → ⊥) }
+        ensures none { IfNone result ((l : SatLit) → l.var.0 < length self.now → bank_literal bank.now.terms self.now l ≡ as_literal
+            (term_at bank.now.terms id) → ⊥) }
     {
         let formula = atom_of(bank, id);
         equal_ids_for_equal_terms(bank);

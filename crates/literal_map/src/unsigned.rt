@@ -64,7 +64,8 @@ fn negated(node: &Node) -> Option<Id>
 /// The formula without its outer negations, each of which changes the sign. There may be as many of them as there is memory for.
 pub fn atom_of(bank: &Bank, formula: Id) -> SignedAtom
     requires { formula < length bank.now.terms }
-    ensures literal { record { positive = result.positive; atom = term_at bank.now.terms result.atom } ≡ as_literal (term_at bank.now.terms formula) }
+    ensures literal { record { positive = result.positive; atom = term_at bank.now.terms result.atom } ≡ as_literal
+        (term_at bank.now.terms formula) }
     ensures within { result.atom < length bank.now.terms }
     ensures unsigned { is_negated (term_at bank.now.terms result.atom) ≡ false }
 {

@@ -23,7 +23,7 @@ are_partners s t = if is_spine s then same_head s t else equates_alike s t
 abbrev pub partners_of : List Lambda → List ℕ → SatLit → List SatLit → List SatLit
 partners_of terms atoms l noted =
     filter (λ m. not (same_sign l.positive m.positive) && are_partners (bank_atom terms atoms l.var.0) (bank_atom terms atoms m.var.0))
-        noted
+    noted
 
 -- the positive and the negative ones of some literals, in order
 pub record Signed : Type 0 where

@@ -72,7 +72,8 @@ impl Heads {
     /// Keeps a literal under the head at a place. The answer are those of the other sign that are there.
     fn keep_at(&mut self, place: usize, lit: SatLit) -> Result<Partners, AllocError>
         requires { place < length self.old }
-        ensures partners { IfOk result (λ found. (h : Lambda) → place ≡ notes_place h self.old → found ≡ kept_under h (not lit.positive) self.old) }
+        ensures partners { IfOk result (λ found. (h : Lambda) → place ≡ notes_place h self.old
+            → found ≡ kept_under h (not lit.positive) self.old) }
         ensures keeps { OnOk result ((h : Lambda) → place ≡ notes_place h self.old → Keeps h lit self.old self.new) }
         ensures err { OnErr result (self.new ≡ self.old) }
     {

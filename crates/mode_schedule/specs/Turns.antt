@@ -48,7 +48,8 @@ abbrev pub pushed_again : Slot → Entry ℕ → Course → Course
 pushed_again slot turn c =
     record c {
       turns = c.turns ++ (record { due = c.total + slot.slice; number = c.pushes; command = turn.command }) ∷ [];
-      pushes = c.pushes + 1 }
+      pushes = c.pushes + 1;
+    }
 
 -- a run was found with no command left
 abbrev pub exhausted_by : Course → Course
@@ -70,16 +71,16 @@ pub data ScheduleEndsFrom (slots : List Slot) (start : List Literal) : Course �
       → IsProved slot.setting start (done_by c turn + k) → ScheduleEndsFrom slots start c (closed turn.command (c.total + k))
   has_none_left : (c : Course) (turn : Entry ℕ) (slot : Slot) (k : ℕ) (e : End) → IsNextTurn slots c turn slot → k < slot.slice
       → IsExhausted slot.setting start (done_by c turn + k)
-          → ScheduleEndsFrom slots start (exhausted_by (taken c turn k)) e
-          → ScheduleEndsFrom slots start c e
+      → ScheduleEndsFrom slots start (exhausted_by (taken c turn k)) e
+      → ScheduleEndsFrom slots start c e
   is_at_limit : (c : Course) (turn : Entry ℕ) (slot : Slot) (k : ℕ) (e : End) → IsNextTurn slots c turn slot → k < slot.slice
       → IsStopped slot.setting start (done_by c turn + k)
-          → ScheduleEndsFrom slots start (taken c turn k) e
-          → ScheduleEndsFrom slots start c e
+      → ScheduleEndsFrom slots start (taken c turn k) e
+      → ScheduleEndsFrom slots start c e
   goes_on : (c : Course) (turn : Entry ℕ) (slot : Slot) (e : End) → IsNextTurn slots c turn slot
       → GoesOnUntil slot.setting start (done_by c turn + slot.slice)
-          → ScheduleEndsFrom slots start (pushed_again slot turn (taken c turn slot.slice)) e
-          → ScheduleEndsFrom slots start c e
+      → ScheduleEndsFrom slots start (pushed_again slot turn (taken c turn slot.slice)) e
+      → ScheduleEndsFrom slots start c e
   no_turn_left : (c : Course) → c.turns ≡ [] → ScheduleEndsFrom slots start c (if c.exhausted then empty c.total else limit c.total)
 
 -- how the schedule of these runs ends

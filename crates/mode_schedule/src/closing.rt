@@ -20,7 +20,8 @@ fn keep_only<R: Run>(runs: &mut Vec<Option<R>>, number: usize)
 /// Lets all runs go that nobody needs once a schedule has ended so.
 pub(crate) fn let_others_go<R: Run>(runs: &mut Vec<Option<R>>, ended: Ended)
     ensures kept { WhereClosedBy ended (λ number. slice_get runs.new.items number ≡ slice_get runs.old.items number) }
-    ensures gone { WhereClosedBy ended (λ number. (k : ℕ) → k < length runs.new.items → k ≢ number → slice_get runs.new.items k ≡ Some None) }
+    ensures gone { WhereClosedBy ended (λ number. (k : ℕ) → k < length runs.new.items → k ≢ number
+        → slice_get runs.new.items k ≡ Some None) }
 {
     match ended {
         Ended::Closed { block, .. } => keep_only(runs, block as usize),

@@ -46,7 +46,8 @@ pub(crate) fn turn_at<R: Run, M: MakesRuns<R>>(
 ) -> Result<Took, AllocError>
     requires within { turn.block < length (M.slots maker.now) }
     requires may { M.may_make maker.now turn.block }
-    requires held { (slot : Slot) × (n : ℕ) × (slice_get (M.slots maker.now) turn.block ≡ Some slot) × IsRunPlace (λ k run. R.at run slot.setting (M.start maker.now) k) n place.old }
+    requires held { (slot : Slot) × (n : ℕ) × (slice_get (M.slots maker.now) turn.block ≡ Some slot)
+        × IsRunPlace (λ k run. R.at run slot.setting (M.start maker.now) k) n place.old }
     ensures { IfOk result (λ took. (slot : Slot) (n : ℕ) → slice_get (M.slots maker.now) turn.block ≡ Some slot → IsRunPlace (λ k run. R.at run slot.setting (M.start maker.now) k) n place.old
         → TookPlace (λ k run. R.at run slot.setting (M.start maker.now) k) (λ k run. R.left run slot.setting (M.start maker.now) k) slot.setting (M.start maker.now) turn.slice n place.new took.turned took.commands) }
 {

@@ -32,7 +32,8 @@ impl<R: Run, V: Weigher<Turn>> Schedule<R, V> {
         requires callable { V.is_callable weigher }
         requires answers { V.answers weigher (λ turn now. now + turn.slice) }
         requires few { length blocks.now ≤ most_blocks }
-        ensures { IfOk result (λ s. IsFresh (map (λ b. b.slice) blocks.now) s.turns.entries s.turns.pushes s.total s.is_exhausted s.runs.items) }
+        ensures { IfOk result (λ s. IsFresh (map (λ b. b.slice) blocks.now) s.turns.entries s.turns.pushes s.total s.is_exhausted
+            s.runs.items) }
     {
         let mut runs = Vec::new(alloc);
         let mut turns = Agenda::new(alloc, SliceRule, weigher);
@@ -58,13 +59,20 @@ impl<R: Run, V: Weigher<Turn>> Schedule<R, V> {
 
     /// A turn of the run that is next. The answer is how the schedule ends, where it ends with it.
     fn turn<M: MakesRuns<R>>(&mut self, maker: &M) -> Result<Option<Ended>, AllocError>
-        requires stands { StandsForCourse (λ setting n run. R.at run setting (M.start maker.now) n) (M.slots maker.now) (M.start maker.now) self.old.turns.entries self.old.turns.pushes self.old.total self.old.is_exhausted self.old.runs.items }
+        requires stands { StandsForCourse (λ setting n run. R.at run setting (M.start maker.now) n) (M.slots maker.now) (M.start maker.now)
+            self.old.turns.entries self.old.turns.pushes self.old.total self.old.is_exhausted self.old.runs.items }
         requires slots { AreSlots (M.slots maker.now) }
         requires may { (k : ℕ) → k < length (M.slots maker.now) → M.may_make maker.now k }
         ensures ended { IfOk result (λ o. IfSome o (EndsWith (M.slots maker.now) (M.start maker.now))) }
-        ensures closed { IfOk result (λ o. IfSome o (λ e. WhereClosedBy e (IsLeft (λ setting n run. R.left run setting (M.start maker.now) n) (M.slots maker.now) (M.start maker.now) self.new.runs.items))) }
-        ensures goes_on { IfOk result (λ o. IfNone o (StandsForCourse (λ setting n run. R.at run setting (M.start maker.now) n) (M.slots maker.now) (M.start maker.now) self.new.turns.entries self.new.turns.pushes self.new.total self.new.is_exhausted self.new.runs.items)) }
-        ensures fewer { IfOk result (λ o. IfNone o (turns_left self.new.total self.new.turns.entries < turns_left self.old.total self.old.turns.entries)) }
+        ensures closed { IfOk result
+            (λ o. IfSome o
+            (λ e. WhereClosedBy e (IsLeft (λ setting n run. R.left run setting (M.start maker.now) n) (M.slots maker.now)
+            (M.start maker.now) self.new.runs.items))) }
+        ensures goes_on { IfOk result
+            (λ o. IfNone o (StandsForCourse (λ setting n run. R.at run setting (M.start maker.now) n) (M.slots maker.now)
+            (M.start maker.now) self.new.turns.entries self.new.turns.pushes self.new.total self.new.is_exhausted self.new.runs.items)) }
+        ensures fewer { IfOk result
+            (λ o. IfNone o (turns_left self.new.total self.new.turns.entries < turns_left self.old.total self.old.turns.entries)) }
     {
         let Some(entry) = self.turns.pop_entry() else {
             if self.is_exhausted {
@@ -95,12 +103,16 @@ impl<R: Run, V: Weigher<Turn>> Schedule<R, V> {
 
     /// Takes turns until the schedule ends. Then no run is left but one that closed it.
     pub fn run<M: MakesRuns<R>>(&mut self, maker: &M) -> Result<Ended, AllocError>
-        requires fresh { IsFresh (map (λ s. s.slice) (M.slots maker.now)) self.old.turns.entries self.old.turns.pushes self.old.total self.old.is_exhausted self.old.runs.items }
+        requires fresh { IsFresh (map (λ s. s.slice) (M.slots maker.now)) self.old.turns.entries self.old.turns.pushes self.old.total
+            self.old.is_exhausted self.old.runs.items }
         requires slots { AreSlots (M.slots maker.now) }
         requires may { (k : ℕ) → k < length (M.slots maker.now) → M.may_make maker.now k }
         ensures ended { IfOk result (EndsWith (M.slots maker.now) (M.start maker.now)) }
-        ensures closed { IfOk result (λ e. WhereClosedBy e (IsLeft (λ setting n run. R.left run setting (M.start maker.now) n) (M.slots maker.now) (M.start maker.now) self.new.runs.items)) }
-        ensures gone { IfOk result (λ e. WhereClosedBy e (λ number. (k : ℕ) → k < length self.new.runs.items → k ≢ number → slice_get self.new.runs.items k ≡ Some None)) }
+        ensures closed { IfOk result
+            (λ e. WhereClosedBy e (IsLeft (λ setting n run. R.left run setting (M.start maker.now) n) (M.slots maker.now)
+            (M.start maker.now) self.new.runs.items)) }
+        ensures gone { IfOk result (λ e. WhereClosedBy e (λ number. (k : ℕ) → k < length self.new.runs.items → k ≢ number
+            → slice_get self.new.runs.items k ≡ Some None)) }
     {
         for _turns in 0..MOST_TURNS {
             if let Some(ended) = self.turn(maker)? {

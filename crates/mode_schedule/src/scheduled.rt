@@ -49,16 +49,19 @@ fn run_all<W: Weigher<Waiting> + Copy, V: Weigher<Turn>>(
     schedule: &mut Schedule<Search<W>, V>,
     maker: &Searches<'_, W>,
 ) -> Result<Scheduled, AllocError>
-    requires fresh { IsFresh (map (λ b. b.slice) maker.now.blocks.now) schedule.old.turns.entries schedule.old.turns.pushes schedule.old.total schedule.old.is_exhausted schedule.old.runs.items }
+    requires fresh { IsFresh (map (λ b. b.slice) maker.now.blocks.now) schedule.old.turns.entries schedule.old.turns.pushes
+        schedule.old.total schedule.old.is_exhausted schedule.old.runs.items }
     requires typed { IsTyped maker.now.problem.now }
     requires modest { IsModestProblem 1024 maker.now.problem.now }
-    requires prepared { IsPreparedFor (unfolded_problem maker.now.problem.now) maker.now.prepared.now.basis maker.now.prepared.now.start.items }
+    requires prepared { IsPreparedFor (unfolded_problem maker.now.problem.now) maker.now.prepared.now.basis
+        maker.now.prepared.now.start.items }
     requires few { length maker.now.blocks.now ≤ most_blocks }
     requires slices { All (λ b. 0 < b.slice) maker.now.blocks.now }
     requires in_range { All (λ b. IsInRange b.mode) maker.now.blocks.now }
     requires many { length maker.now.weighers.now ≡ length maker.now.blocks.now }
     requires callable { (k : ℕ) → IfSome (slice_get maker.now.weighers.now k) (λ w. W.is_callable w) }
-    requires answers { (k : ℕ) (block : _) → slice_get maker.now.blocks.now k ≡ Some block → IfSome (slice_get maker.now.weighers.now k) (λ w. W.answers w (λ waiting now. now + delay_by block.mode waiting.first)) }
+    requires answers { (k : ℕ) (block : _) → slice_get maker.now.blocks.now k ≡ Some block
+        → IfSome (slice_get maker.now.weighers.now k) (λ w. W.answers w (λ waiting now. now + delay_by block.mode waiting.first)) }
     ensures { IfOk result (EndsBy (unfolded_problem maker.now.problem.now) maker.now.blocks.now) }
 {
     match schedule.run(maker)? {
@@ -94,7 +97,8 @@ fn run_prepared<W: Weigher<Waiting> + Copy, V: Weigher<Turn>>(
     requires in_range { All (λ b. IsInRange b.mode) blocks.now }
     requires many { length weighers.now ≡ length blocks.now }
     requires callable { (k : ℕ) → IfSome (slice_get weighers.now k) (λ w. W.is_callable w) }
-    requires answers { (k : ℕ) (block : _) → slice_get blocks.now k ≡ Some block → IfSome (slice_get weighers.now k) (λ w. W.answers w (λ waiting now. now + delay_by block.mode waiting.first)) }
+    requires answers { (k : ℕ) (block : _) → slice_get blocks.now k ≡ Some block
+        → IfSome (slice_get weighers.now k) (λ w. W.answers w (λ waiting now. now + delay_by block.mode waiting.first)) }
     requires turns_callable { V.is_callable turns }
     requires turns_answer { V.answers turns (λ turn now. now + turn.slice) }
     ensures { IfOk result (EndsBy (unfolded_problem problem.now) blocks.now) }
@@ -127,7 +131,8 @@ fn run_by<W: Weigher<Waiting> + Copy, V: Weigher<Turn>>(
     requires in_range { All (λ b. IsInRange b.mode) blocks.now }
     requires many { length weighers.now ≡ length blocks.now }
     requires callable { (k : ℕ) → IfSome (slice_get weighers.now k) (λ w. W.is_callable w) }
-    requires answers { (k : ℕ) (block : _) → slice_get blocks.now k ≡ Some block → IfSome (slice_get weighers.now k) (λ w. W.answers w (λ waiting now. now + delay_by block.mode waiting.first)) }
+    requires answers { (k : ℕ) (block : _) → slice_get blocks.now k ≡ Some block
+        → IfSome (slice_get weighers.now k) (λ w. W.answers w (λ waiting now. now + delay_by block.mode waiting.first)) }
     requires turns_callable { V.is_callable turns }
     requires turns_answer { V.answers turns (λ turn now. now + turn.slice) }
     ensures { IfOk result (EndsBy (unfolded_problem problem.now) blocks.now) }

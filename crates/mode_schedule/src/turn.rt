@@ -21,9 +21,11 @@ fn look<W: Weigher<Waiting>>(search: &mut Search<W>) -> Result<Option<Turned>, A
         → IsFound (setting_by search.old.core.tables search.old.core.plan) (start_in search.old.core.tables) search.old.core.tables.done t)) }
     ensures closes { IfOk result (λ o. IfSome o (ClosesSearch search.new.core.tables search.new.core.plan)) }
     ensures same { IfOk result (λ o. IfSome o (λ t. search.new.core.tables.done ≡ search.old.core.tables.done)) }
-    ensures goes_on { IfOk result (λ o. IfNone o (GoesOnTo search.old.core.tables search.old.core.plan search.new.core.tables search.new.core.plan)) }
+    ensures goes_on { IfOk result
+        (λ o. IfNone o (GoesOnTo search.old.core.tables search.old.core.plan search.new.core.tables search.new.core.plan)) }
     ensures under_way { OnOk result (IsUnderWay search.new.core.tables search.new.core.plan search.new.mode) }
-    ensures setting { OnOk result (setting_by search.new.core.tables search.new.core.plan ≡ setting_by search.old.core.tables search.old.core.plan) }
+    ensures setting { OnOk result (setting_by search.new.core.tables search.new.core.plan ≡ setting_by search.old.core.tables
+        search.old.core.plan) }
     ensures start { OnOk result (start_in search.new.core.tables ≡ start_in search.old.core.tables) }
     ensures mode { search.new.mode ≡ search.old.mode }
     ensures ready { OnOk result (search.new.is_refused ≡ false) }
@@ -50,12 +52,15 @@ pub(crate) fn take_turn<W: Weigher<Waiting>>(
 ) -> Result<Turned, AllocError>
     requires under_way { IsUnderWay search.old.core.tables search.old.core.plan search.old.mode }
     requires ready { search.old.is_refused ≡ false }
-    requires until { GoesOnUntil (setting_by search.old.core.tables search.old.core.plan) (start_in search.old.core.tables) search.old.core.tables.done }
-    ensures ends { IfOk result (TurnEnds (setting_by search.old.core.tables search.old.core.plan) (start_in search.old.core.tables) slice search.old.core.tables.done search.new.core.tables.done) }
+    requires until { GoesOnUntil (setting_by search.old.core.tables search.old.core.plan) (start_in search.old.core.tables)
+        search.old.core.tables.done }
+    ensures ends { IfOk result (TurnEnds (setting_by search.old.core.tables search.old.core.plan) (start_in search.old.core.tables) slice
+        search.old.core.tables.done search.new.core.tables.done) }
     ensures later { OnOk result (search.old.core.tables.done ≤ search.new.core.tables.done) }
     ensures closes { IfOk result (ClosesSearch search.new.core.tables search.new.core.plan) }
     ensures under_way { OnOk result (IsUnderWay search.new.core.tables search.new.core.plan search.new.mode) }
-    ensures setting { OnOk result (setting_by search.new.core.tables search.new.core.plan ≡ setting_by search.old.core.tables search.old.core.plan) }
+    ensures setting { OnOk result (setting_by search.new.core.tables search.new.core.plan ≡ setting_by search.old.core.tables
+        search.old.core.plan) }
     ensures start { OnOk result (start_in search.new.core.tables ≡ start_in search.old.core.tables) }
     ensures mode { search.new.mode ≡ search.old.mode }
     ensures ready { OnOk result (search.new.is_refused ≡ false) }

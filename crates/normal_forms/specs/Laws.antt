@@ -49,7 +49,7 @@ ArgumentsAreReplacedFirst =
     → IsCanonical scope ctx a r
     → ArgumentsFit scope (front ++ a ∷ ctx) a us
     → replace (ways a) (length front) r (applied (bound (length front)) us)
-            ≡ apply_each (lift_by (length front) zero r) (map (replace (ways a) (length front) r) us)
+    ≡ apply_each (lift_by (length front) zero r) (map (replace (ways a) (length front) r) us)
 
 -- where another variable is the head, it takes the arguments as they become
 abbrev pub OtherHeadsStay : Type 0
@@ -78,4 +78,4 @@ ReplaceKeepsValues =
     → IsCanonical scope ctx a r
     → IsCanonical scope (front ++ a ∷ ctx) b t
     → value scope m (front ++ ctx) (es ++ env) (replace (ways a) (length front) r t)
-            ≡ value scope m (front ++ a ∷ ctx) (es ++ value scope m ctx env r ∷ env) t
+    ≡ value scope m (front ++ a ∷ ctx) (es ++ value scope m ctx env r ∷ env) t

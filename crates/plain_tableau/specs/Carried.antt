@@ -39,7 +39,7 @@ abbrev pub NumbersExpandAsFormulas : Type 0
 NumbersExpandAsFormulas =
     (atoms : List Lambda) → AreApart atoms
     → (used : List (TreeInstance SatLit)) (limit : ℕ) (start : List SatLit) (r : Expanded SatLit (PlainTree SatLit))
-        → Each (IsNumberedInstance atoms) used
-        → Each (IsNumber atoms) start
+    → Each (IsNumberedInstance atoms) used
+    → Each (IsNumber atoms) start
     → Expansion numbers used limit start r
-        → Expansion formulas (map (instance_in atoms) used) limit (literals_of atoms start) (result_in atoms r)
+    → Expansion formulas (map (instance_in atoms) used) limit (literals_of atoms start) (result_in atoms r)

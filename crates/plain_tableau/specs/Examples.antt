@@ -67,7 +67,8 @@ abbrev pub pointwise_tree_refutation : Refutation
 pointwise_tree_refutation =
     record {
       witnesses = [];
-      lines = record { branch = plus pointwise_a0 ∷ minus pointwise_a1 ∷ []; rule = AtOne FunNeg 1; children = Closed ∷ [] } ∷ [] }
+      lines = record { branch = plus pointwise_a0 ∷ minus pointwise_a1 ∷ []; rule = AtOne FunNeg 1; children = Closed ∷ [] } ∷ [];
+    }
 
 abbrev pub PointwiseExpands : Type 0
 PointwiseExpands =

@@ -44,26 +44,26 @@ put_before t over = over
 mutual
   -- what comes of a branch, where so many nodes were made before
   pub data Expands {L : Type 0} (kind : Kind L) (used : List (TreeInstance L)) (limit : ℕ) : ℕ → List L → Expanded L (PlainTree L) → Type 0
-      where
-    closes : (made : ℕ) (branch : List L) → is_closed_branch kind branch ≡ true → Expands kind used limit made branch (found closed)
-    stays_open :
-        (made : ℕ) (branch : List L)
-        → is_closed_branch kind branch ≡ false
-        → next_due kind used branch ≡ None
-        → Expands kind used limit made branch (open_at branch)
-    is_over :
-        (made : ℕ) (branch : List L) (i : TreeInstance L)
-        → is_closed_branch kind branch ≡ false
-        → next_due kind used branch ≡ Some i
-        → limit ≤ made
-        → Expands kind used limit made branch over
-    makes :
-        (made : ℕ) (branch : List L) (i : TreeInstance L) (r : Expanded L (PlainTrees L))
-        → is_closed_branch kind branch ≡ false
-        → next_due kind used branch ≡ Some i
-        → made < limit
-        → ExpandEach kind used limit (suc made) branch i.alternatives r
-        → Expands kind used limit made branch (put_under i branch r)
+    where
+      closes : (made : ℕ) (branch : List L) → is_closed_branch kind branch ≡ true → Expands kind used limit made branch (found closed)
+      stays_open :
+          (made : ℕ) (branch : List L)
+          → is_closed_branch kind branch ≡ false
+          → next_due kind used branch ≡ None
+          → Expands kind used limit made branch (open_at branch)
+      is_over :
+          (made : ℕ) (branch : List L) (i : TreeInstance L)
+          → is_closed_branch kind branch ≡ false
+          → next_due kind used branch ≡ Some i
+          → limit ≤ made
+          → Expands kind used limit made branch over
+      makes :
+          (made : ℕ) (branch : List L) (i : TreeInstance L) (r : Expanded L (PlainTrees L))
+          → is_closed_branch kind branch ≡ false
+          → next_due kind used branch ≡ Some i
+          → made < limit
+          → ExpandEach kind used limit (suc made) branch i.alternatives r
+          → Expands kind used limit made branch (put_under i branch r)
 
   -- what comes of a branch with each of the alternatives, one after the other
   pub data ExpandEach {L : Type 0} (kind : Kind L) (used : List (TreeInstance L)) (limit : ℕ) : ℕ → List L → List (List L) → Expanded L

@@ -29,7 +29,7 @@ OneExpansion {L} kind =
 abbrev pub TreeIsAccepted : Type 0
 TreeIsAccepted =
     (scope : Scope) (rows : List Row) (atoms : List Lambda) (used : List (TreeInstance SatLit)) (limit : ℕ) (start : List SatLit)
-        (t : PlainTree SatLit) (refutation : Refutation)
+    (t : PlainTree SatLit) (refutation : Refutation)
     → AreInstancesGiven scope rows atoms used → Expansion numbers used limit start (found t) → IsOfTree atoms rows t refutation
     → IsAccepted scope (literals_of atoms start) refutation
 
@@ -37,7 +37,7 @@ TreeIsAccepted =
 abbrev pub TreeIsClosed : Type 0
 TreeIsClosed =
     (scope : Scope) (rows : List Row) (atoms : List Lambda) (used : List (TreeInstance SatLit)) (limit : ℕ) (start : List SatLit)
-        (t : PlainTree SatLit) (refutation : Refutation)
+    (t : PlainTree SatLit) (refutation : Refutation)
     → AreInstancesGiven scope rows atoms used → Expansion numbers used limit start (found t) → IsOfTree atoms rows t refutation
     → Closes scope refutation.witnesses (tableau_of refutation) (literals_of atoms start)
 
@@ -45,7 +45,7 @@ TreeIsClosed =
 abbrev pub TreeHasNoCut : Type 0
 TreeHasNoCut =
     (scope : Scope) (rows : List Row) (atoms : List Lambda) (used : List (TreeInstance SatLit)) (limit : ℕ) (start : List SatLit)
-        (t : PlainTree SatLit) (refutation : Refutation)
+    (t : PlainTree SatLit) (refutation : Refutation)
     → AreInstancesGiven scope rows atoms used → Expansion numbers used limit start (found t) → IsOfTree atoms rows t refutation
     → HasNoCut refutation.lines
 
@@ -53,7 +53,7 @@ TreeHasNoCut =
 abbrev pub TreeIsWithin : Type 0
 TreeIsWithin =
     (rows : List Row) (atoms : List Lambda) (used : List (TreeInstance SatLit)) (limit : ℕ) (start : List SatLit) (t : PlainTree SatLit)
-        (refutation : Refutation)
+    (refutation : Refutation)
     → Expansion numbers used limit start (found t) → IsOfTree atoms rows t refutation
     → (length refutation.lines ≡ nodes_in t) × (nodes_in t ≤ limit)
 

@@ -26,7 +26,7 @@ pub record AddsSmall (atoms : List Lambda) (i : TreeInstance SatLit) : Type 0 wh
 abbrev pub TreeTermsAreSmall : Type 0
 TreeTermsAreSmall =
     (rows : List Row) (atoms : List Lambda) (used : List (TreeInstance SatLit)) (limit : ℕ) (start : List SatLit) (t : PlainTree SatLit)
-        (refutation : Refutation)
+    (refutation : Refutation)
     → AllByRecursion (λ (row : Row). IsSmallTerm row.predicate) rows → Each (AddsSmall atoms) used → Each (HasSmallAtom atoms) start
     → Expansion numbers used limit start (found t) → IsOfTree atoms rows t refutation
     → AreTermsSmall refutation

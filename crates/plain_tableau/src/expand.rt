@@ -95,7 +95,8 @@ fn at_once(
     requires atoms { All (IsAtom bank.now) atoms.now }
     requires over { IsOver (length atoms.now) path.literals.keys }
     requires clash { first_clash numbers path.literals.keys ≡ Some lit }
-    ensures exactly { IfOk result (IsStripped (atoms_at bank.now.terms atoms.now) (rows_of bank.now.terms witnesses.now) (the_used bank.now.terms atoms.now steps.now used.now) nodes path.literals.keys) }
+    ensures exactly { IfOk result (IsStripped (atoms_at bank.now.terms atoms.now) (rows_of bank.now.terms witnesses.now)
+        (the_used bank.now.terms atoms.now steps.now used.now) nodes path.literals.keys) }
     ensures in_range { IfOk result (OfTree AreNumbersInRange) }
 {
     let _steps = steps.len();
@@ -129,9 +130,11 @@ fn walked(
     requires used { All (IsUsable bank.now atoms.now (rows_of bank.now.terms witnesses.now) steps.now) used.now }
     requires path { IsPath (length atoms.now) steps.now used.now walk.path }
     requires writing { IsWriting bank.now atoms.now witnesses.now walk.writing }
-    requires ahead { IsAhead (the_used bank.now.terms atoms.now steps.now used.now) nodes start.now (atoms_at bank.now.terms atoms.now) 0 (reverse walk.frames.items) walk.path.literals.keys walk.writing.lines }
+    requires ahead { IsAhead (the_used bank.now.terms atoms.now steps.now used.now) nodes start.now (atoms_at bank.now.terms atoms.now) 0
+        (reverse walk.frames.items) walk.path.literals.keys walk.writing.lines }
     requires open { first_clash numbers start.now ≡ None }
-    ensures exactly { IfOk result (IsStripped (atoms_at bank.now.terms atoms.now) (rows_of bank.now.terms witnesses.now) (the_used bank.now.terms atoms.now steps.now used.now) nodes start.now) }
+    ensures exactly { IfOk result (IsStripped (atoms_at bank.now.terms atoms.now) (rows_of bank.now.terms witnesses.now)
+        (the_used bank.now.terms atoms.now steps.now used.now) nodes start.now) }
     ensures in_range { IfOk result (OfTree AreNumbersInRange) }
 {
     match walk.grow(alloc, bank, atoms, steps, witnesses, used, start, nodes)? {
@@ -166,7 +169,8 @@ fn grown(
     requires used { All (IsUsable bank.now atoms.now (rows_of bank.now.terms witnesses.now) steps.now) used.now }
     requires path { IsPath (length atoms.now) steps.now used.now path }
     requires open { first_clash numbers path.literals.keys ≡ None }
-    ensures exactly { IfOk result (IsStripped (atoms_at bank.now.terms atoms.now) (rows_of bank.now.terms witnesses.now) (the_used bank.now.terms atoms.now steps.now used.now) nodes path.literals.keys) }
+    ensures exactly { IfOk result (IsStripped (atoms_at bank.now.terms atoms.now) (rows_of bank.now.terms witnesses.now)
+        (the_used bank.now.terms atoms.now steps.now used.now) nodes path.literals.keys) }
     ensures in_range { IfOk result (OfTree AreNumbersInRange) }
 {
     let start = path.as_slice().to_vec(alloc)?;
@@ -191,7 +195,8 @@ fn from_path(
     requires atoms { All (IsAtom bank.now) atoms.now }
     requires used { All (IsUsable bank.now atoms.now (rows_of bank.now.terms witnesses.now) steps.now) used.now }
     requires path { IsPath (length atoms.now) steps.now used.now path }
-    ensures exactly { IfOk result (IsStripped (atoms_at bank.now.terms atoms.now) (rows_of bank.now.terms witnesses.now) (the_used bank.now.terms atoms.now steps.now used.now) nodes path.literals.keys) }
+    ensures exactly { IfOk result (IsStripped (atoms_at bank.now.terms atoms.now) (rows_of bank.now.terms witnesses.now)
+        (the_used bank.now.terms atoms.now steps.now used.now) nodes path.literals.keys) }
     ensures in_range { IfOk result (OfTree AreNumbersInRange) }
 {
     match path.first_clash() {
@@ -215,9 +220,13 @@ pub fn strip(
     requires atoms { All (IsAtom bank.now) lits.now }
     requires units { AreUnitsNumbered lits.now steps.now }
     requires used { All (IsUsable bank.now lits.now (rows_of bank.now.terms witnesses.now) steps.now) used.now }
-    ensures exactly { IfOk result (IsStripped (atoms_at bank.now.terms lits.now) (rows_of bank.now.terms witnesses.now) (the_used bank.now.terms lits.now steps.now used.now) nodes (start_branch steps.now)) }
-    ensures accepted { IfOk result (OfTree (IsAccepted (content_scope bank.now) (unit_literals (atoms_at bank.now.terms lits.now) steps.now.0))) }
-    ensures closed { IfOk result (OfTree (λ refutation. Closes (content_scope bank.now) refutation.witnesses (tableau_of refutation) (unit_literals (atoms_at bank.now.terms lits.now) steps.now.0))) }
+    ensures exactly { IfOk result (IsStripped (atoms_at bank.now.terms lits.now) (rows_of bank.now.terms witnesses.now)
+        (the_used bank.now.terms lits.now steps.now used.now) nodes (start_branch steps.now)) }
+    ensures accepted { IfOk result
+        (OfTree (IsAccepted (content_scope bank.now) (unit_literals (atoms_at bank.now.terms lits.now) steps.now.0))) }
+    ensures closed { IfOk result
+        (OfTree (λ refutation. Closes (content_scope bank.now) refutation.witnesses (tableau_of refutation)
+        (unit_literals (atoms_at bank.now.terms lits.now) steps.now.0))) }
     ensures no_cut { IfOk result (OfTree (λ refutation. HasNoCut refutation.lines)) }
     ensures within { IfOk result (IsWithinLimit nodes) }
     ensures reached { IfOk result (OfTree (λ refutation. IsEachReached refutation.lines)) }

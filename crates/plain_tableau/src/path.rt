@@ -63,7 +63,8 @@ fn refresh(
 ) -> Result<(), AllocError>
     requires within { All (λ k. k < length (the_instances steps.now)) used.now }
     requires places { All (λ u. u < length used.now) places.now }
-    ensures right { OnOk result ((u k : ℕ) → slice_get used.now u ≡ Some k → (Contains places.now u) ⊎ (is_due_place due.old u ≡ is_due_at steps.now branch.now.keys k) → is_due_place due.new u ≡ is_due_at steps.now branch.now.keys k) }
+    ensures right { OnOk result ((u k : ℕ) → slice_get used.now u ≡ Some k → (Contains places.now u) ⊎
+        (is_due_place due.old u ≡ is_due_at steps.now branch.now.keys k) → is_due_place due.new u ≡ is_due_at steps.now branch.now.keys k) }
     ensures inside { OnOk result (IsInside used.now due.old → IsInside used.now due.new) }
 {
     for i in 0..places.len() {
@@ -148,7 +149,8 @@ impl Path {
     /// The place of the next instance.
     pub(crate) fn next(&self, steps: &StepTable, used: &[usize], count: usize) -> Option<usize>
         requires path { IsPath count steps.now used.now self.now }
-        ensures some { IfSome result (λ u. (u < length used.now) × (position_or_len (is_due_at steps.now self.now.literals.keys) used.now ≡ u)) }
+        ensures some { IfSome result
+            (λ u. (u < length used.now) × (position_or_len (is_due_at steps.now self.now.literals.keys) used.now ≡ u)) }
         ensures none { IfNone result (position_or_len (is_due_at steps.now self.now.literals.keys) used.now ≡ length used.now) }
     {
         self.due.first()

@@ -86,12 +86,14 @@ impl Walk {
         requires used { All (IsUsable bank.now atoms.now (rows_of bank.now.terms witnesses.now) steps.now) used.now }
         requires path { IsPath (length atoms.now) steps.now used.now self.old.path }
         requires writing { IsWriting bank.now atoms.now witnesses.now self.old.writing }
-        requires back { IsBack (the_used bank.now.terms atoms.now steps.now used.now) nodes start.now (atoms_at bank.now.terms atoms.now) made (reverse self.old.frames.items) frame self.old.path.literals.keys self.old.writing.lines }
+        requires back { IsBack (the_used bank.now.terms atoms.now steps.now used.now) nodes start.now (atoms_at bank.now.terms atoms.now)
+            made (reverse self.old.frames.items) frame self.old.path.literals.keys self.old.writing.lines }
         requires full { IsFull (the_used bank.now.terms atoms.now steps.now used.now) frame }
         ensures path { OnOk result (IsPath (length atoms.now) steps.now used.now self.new.path) }
         ensures writing { OnOk result (IsWriting bank.now atoms.now witnesses.now self.new.writing) }
         ensures frames { OnOk result (length self.new.frames.items ≡ length self.old.frames.items) }
-        ensures stands { OnOk result (WalkStands (the_used bank.now.terms atoms.now steps.now used.now) nodes start.now (atoms_at bank.now.terms atoms.now) made (reverse self.new.frames.items) self.new.path.literals.keys self.new.writing.lines) }
+        ensures stands { OnOk result (WalkStands (the_used bank.now.terms atoms.now steps.now used.now) nodes start.now
+            (atoms_at bank.now.terms atoms.now) made (reverse self.new.frames.items) self.new.path.literals.keys self.new.writing.lines) }
     {
         let place = frame.place;
         let Frame { children, .. } = frame;
@@ -159,12 +161,15 @@ impl Walk {
         requires used { All (IsUsable bank.now atoms.now (rows_of bank.now.terms witnesses.now) steps.now) used.now }
         requires path { IsPath (length atoms.now) steps.now used.now self.old.path }
         requires writing { IsWriting bank.now atoms.now witnesses.now self.old.writing }
-        requires back { IsBack (the_used bank.now.terms atoms.now steps.now used.now) nodes start.now (atoms_at bank.now.terms atoms.now) made (reverse self.old.frames.items) frame self.old.path.literals.keys self.old.writing.lines }
+        requires back { IsBack (the_used bank.now.terms atoms.now steps.now used.now) nodes start.now (atoms_at bank.now.terms atoms.now)
+            made (reverse self.old.frames.items) frame self.old.path.literals.keys self.old.writing.lines }
         ensures path { OnOk result (IsPath (length atoms.now) steps.now used.now self.new.path) }
         ensures writing { OnOk result (IsWriting bank.now atoms.now witnesses.now self.new.writing) }
         ensures frames { IfOk result (λ b. b ≡ false → length self.new.frames.items ≡ length self.old.frames.items) }
-        ensures ahead { IfOk result (λ b. b ≡ true → IsAhead (the_used bank.now.terms atoms.now steps.now used.now) nodes start.now (atoms_at bank.now.terms atoms.now) made (reverse self.new.frames.items) self.new.path.literals.keys self.new.writing.lines) }
-        ensures stands { IfOk result (λ b. b ≡ false → WalkStands (the_used bank.now.terms atoms.now steps.now used.now) nodes start.now (atoms_at bank.now.terms atoms.now) made (reverse self.new.frames.items) self.new.path.literals.keys self.new.writing.lines) }
+        ensures ahead { IfOk result (λ b. b ≡ true → IsAhead (the_used bank.now.terms atoms.now steps.now used.now) nodes start.now
+            (atoms_at bank.now.terms atoms.now) made (reverse self.new.frames.items) self.new.path.literals.keys self.new.writing.lines) }
+        ensures stands { IfOk result (λ b. b ≡ false → WalkStands (the_used bank.now.terms atoms.now steps.now used.now) nodes start.now
+            (atoms_at bank.now.terms atoms.now) made (reverse self.new.frames.items) self.new.path.literals.keys self.new.writing.lines) }
     {
         let instance = steps.instance(used[frame.place])?;
         for k in frame.children.len()..instance.alternatives.len() {
@@ -200,10 +205,12 @@ impl Walk {
         requires used { All (IsUsable bank.now atoms.now (rows_of bank.now.terms witnesses.now) steps.now) used.now }
         requires path { IsPath (length atoms.now) steps.now used.now self.old.path }
         requires writing { IsWriting bank.now atoms.now witnesses.now self.old.writing }
-        requires stands { WalkStands (the_used bank.now.terms atoms.now steps.now used.now) nodes start.now (atoms_at bank.now.terms atoms.now) made (reverse self.old.frames.items) self.old.path.literals.keys self.old.writing.lines }
+        requires stands { WalkStands (the_used bank.now.terms atoms.now steps.now used.now) nodes start.now
+            (atoms_at bank.now.terms atoms.now) made (reverse self.old.frames.items) self.old.path.literals.keys self.old.writing.lines }
         ensures path { OnOk result (IsPath (length atoms.now) steps.now used.now self.new.path) }
         ensures writing { OnOk result (IsWriting bank.now atoms.now witnesses.now self.new.writing) }
-        ensures goes_on { IfOk result (WalkGoesOn (the_used bank.now.terms atoms.now steps.now used.now) nodes start.now (atoms_at bank.now.terms atoms.now) made (reverse self.new.frames.items) self.new.path.literals.keys self.new.writing.lines) }
+        ensures goes_on { IfOk result (WalkGoesOn (the_used bank.now.terms atoms.now steps.now used.now) nodes start.now
+            (atoms_at bank.now.terms atoms.now) made (reverse self.new.frames.items) self.new.path.literals.keys self.new.writing.lines) }
     {
         while let Some(frame) = self.frames.pop() {
             if self.go_on(
@@ -237,10 +244,13 @@ impl Walk {
         requires fewer { made < nodes }
         requires within { place < length used.now }
         requires next { position_or_len (is_due_at steps.now self.old.path.literals.keys) used.now ≡ place }
-        requires ahead { IsAhead (the_used bank.now.terms atoms.now steps.now used.now) nodes start.now (atoms_at bank.now.terms atoms.now) made (reverse self.old.frames.items) self.old.path.literals.keys self.old.writing.lines }
+        requires ahead { IsAhead (the_used bank.now.terms atoms.now steps.now used.now) nodes start.now (atoms_at bank.now.terms atoms.now)
+            made (reverse self.old.frames.items) self.old.path.literals.keys self.old.writing.lines }
         ensures path { OnOk result (IsPath (length atoms.now) steps.now used.now self.new.path) }
         ensures writing { OnOk result (IsWriting bank.now atoms.now witnesses.now self.new.writing) }
-        ensures goes_on { IfOk result (WalkGoesOn (the_used bank.now.terms atoms.now steps.now used.now) nodes start.now (atoms_at bank.now.terms atoms.now) (made + 1) (reverse self.new.frames.items) self.new.path.literals.keys self.new.writing.lines) }
+        ensures goes_on { IfOk result (WalkGoesOn (the_used bank.now.terms atoms.now steps.now used.now) nodes start.now
+            (atoms_at bank.now.terms atoms.now) (made + 1) (reverse self.new.frames.items) self.new.path.literals.keys
+            self.new.writing.lines) }
     {
         let frame = Frame {
             place,
@@ -278,10 +288,12 @@ impl Walk {
         requires used { All (IsUsable bank.now atoms.now (rows_of bank.now.terms witnesses.now) steps.now) used.now }
         requires path { IsPath (length atoms.now) steps.now used.now self.old.path }
         requires writing { IsWriting bank.now atoms.now witnesses.now self.old.writing }
-        requires ahead { IsAhead (the_used bank.now.terms atoms.now steps.now used.now) nodes start.now (atoms_at bank.now.terms atoms.now) 0 (reverse self.old.frames.items) self.old.path.literals.keys self.old.writing.lines }
+        requires ahead { IsAhead (the_used bank.now.terms atoms.now steps.now used.now) nodes start.now (atoms_at bank.now.terms atoms.now)
+            0 (reverse self.old.frames.items) self.old.path.literals.keys self.old.writing.lines }
         ensures path { OnOk result (IsPath (length atoms.now) steps.now used.now self.new.path) }
         ensures writing { OnOk result (IsWriting bank.now atoms.now witnesses.now self.new.writing) }
-        ensures comes { IfOk result (ComesTo (the_used bank.now.terms atoms.now steps.now used.now) nodes start.now (atoms_at bank.now.terms atoms.now) self.new.path.literals.keys self.new.writing.lines) }
+        ensures comes { IfOk result (ComesTo (the_used bank.now.terms atoms.now steps.now used.now) nodes start.now
+            (atoms_at bank.now.terms atoms.now) self.new.path.literals.keys self.new.writing.lines) }
     {
         for made in 0..nodes {
             match self.path.next(steps, used, atoms.len()) {
@@ -312,7 +324,9 @@ impl Walk {
         requires rows { AreRows bank.now witnesses.now }
         requires writing { IsWriting bank.now atoms.now witnesses.now self.writing }
         ensures lines { IfOk result (λ refutation. refutation.lines ≡ self.writing.lines) }
-        ensures rows { IfOk result (λ refutation. refutation.witnesses ≡ take (rows_for_lines (rows_of bank.now.terms witnesses.now) refutation.lines) (rows_of bank.now.terms witnesses.now)) }
+        ensures rows { IfOk result
+            (λ refutation. refutation.witnesses ≡ take (rows_for_lines (rows_of bank.now.terms witnesses.now) refutation.lines)
+            (rows_of bank.now.terms witnesses.now)) }
         ensures in_range { IfOk result AreNumbersInRange }
     {
         let Walk { writing, .. } = self;

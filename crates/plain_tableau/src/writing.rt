@@ -52,7 +52,8 @@ fn line_with(
     requires good { IsGoodUse bank.now atoms.now instance.now.by }
     requires made { IsMadePool bank.now.terms atoms.now pool.old }
     ensures made { OnOk result (IsMadePool bank.now.terms atoms.now pool.new) }
-    ensures line { IfOk result (λ line. line ≡ node_line (atoms_at bank.now.terms atoms.now) (expanded (the_instance bank.now.terms atoms.now instance.now)) branch.now children) }
+    ensures line { IfOk result (λ line. line ≡ node_line (atoms_at bank.now.terms atoms.now)
+        (expanded (the_instance bank.now.terms atoms.now instance.now)) branch.now children) }
 {
     let literals = lits_of(alloc, bank, atoms, branch, pool)?;
     let places = places_of(alloc, branch, &instance.principals)?;
@@ -139,7 +140,8 @@ impl Writing {
         requires good { IsGoodUse bank.now atoms.now instance.now.by }
         requires writing { IsWriting bank.now atoms.now witnesses.now self.old }
         ensures writing { OnOk result (IsWriting bank.now atoms.now witnesses.now self.new) }
-        ensures lines { OnOk result (self.new.lines ≡ self.old.lines ++ node_line (atoms_at bank.now.terms atoms.now) (expanded (the_instance bank.now.terms atoms.now instance.now)) branch.now children ∷ []) }
+        ensures lines { OnOk result (self.new.lines ≡ self.old.lines ++ node_line (atoms_at bank.now.terms atoms.now)
+            (expanded (the_instance bank.now.terms atoms.now instance.now)) branch.now children ∷ []) }
         ensures number { IfOk result (λ n. n ≡ length self.old.lines) }
     {
         let line = line_with(
@@ -170,7 +172,8 @@ impl Writing {
         requires numbered { IsOver (length atoms.now) branch.now }
         requires writing { IsWriting bank.now atoms.now witnesses.now self.old }
         ensures writing { OnOk result (IsWriting bank.now atoms.now witnesses.now self.new) }
-        ensures lines { OnOk result (self.new.lines ≡ self.old.lines ++ node_line (atoms_at bank.now.terms atoms.now) (closing numbers lit) branch.now [] ∷ []) }
+        ensures lines { OnOk result (self.new.lines ≡ self.old.lines ++ node_line (atoms_at bank.now.terms atoms.now) (closing numbers lit)
+            branch.now [] ∷ []) }
     {
         let line = closing_line(alloc, bank, atoms, lit, branch, &mut self.pool)?;
         let rows = rows_for_branch(bank, atoms, branch);
@@ -206,7 +209,9 @@ impl Writing {
         requires rows { AreRows bank.now witnesses.now }
         requires writing { IsWriting bank.now atoms.now witnesses.now self }
         ensures lines { IfOk result (λ refutation. refutation.lines ≡ self.lines) }
-        ensures rows { IfOk result (λ refutation. refutation.witnesses ≡ take (rows_for_lines (rows_of bank.now.terms witnesses.now) refutation.lines) (rows_of bank.now.terms witnesses.now)) }
+        ensures rows { IfOk result
+            (λ refutation. refutation.witnesses ≡ take (rows_for_lines (rows_of bank.now.terms witnesses.now) refutation.lines)
+            (rows_of bank.now.terms witnesses.now)) }
         ensures in_range { IfOk result AreNumbersInRange }
     {
         let _atoms = atoms.len();

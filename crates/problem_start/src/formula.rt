@@ -27,7 +27,8 @@ fn formula_atom_by(
     requires formula { IsFormula (content_scope bank.old) (the_term formula.now) }
     requires forms { AreForms bank.old forms.now }
     requires right { IsRightNormaliser normal.old bank.old }
-    ensures literal { IfOk result (λ a. record { positive = a.positive; atom = term_at bank.new.terms a.atom } ≡ as_literal (normal_form_by (content_scope bank.old) (forms_in bank.old.terms forms.now) [] (the_term formula.now))) }
+    ensures literal { IfOk result (λ a. record { positive = a.positive; atom = term_at bank.new.terms a.atom } ≡ as_literal
+        (normal_form_by (content_scope bank.old) (forms_in bank.old.terms forms.now) [] (the_term formula.now))) }
     ensures atom { IfOk result (λ a. IsAtom bank.new a.atom) }
     ensures grows { Grows bank.old bank.new }
     ensures right { IsRightNormaliser normal.new bank.new }
@@ -50,7 +51,8 @@ pub(crate) fn formula_literal_by(
     requires right { IsRightNormaliser normal.old bank.old }
     requires atoms { All (IsAtom bank.old) lits.old }
     ensures number { IfOk result (λ l. l.var.0 < length lits.new) }
-    ensures literal { IfOk result (λ l. bank_literal bank.new.terms lits.new l ≡ as_literal (normal_form_by (content_scope bank.old) (forms_in bank.old.terms forms.now) [] (the_term formula.now))) }
+    ensures literal { IfOk result (λ l. bank_literal bank.new.terms lits.new l ≡ as_literal
+        (normal_form_by (content_scope bank.old) (forms_in bank.old.terms forms.now) [] (the_term formula.now))) }
     ensures grows { Grows bank.old bank.new }
     ensures right { IsRightNormaliser normal.new bank.new }
     ensures begins { Begins lits.old lits.new }

@@ -35,7 +35,9 @@ fn numbers_at(
     requires forms { AreForms bank.old forms.now }
     requires right { IsRightNormaliser normal.old bank.old }
     requires atoms { All (IsAtom bank.old) lits.old }
-    ensures numbers { IfOk result (λ ns. AreStartNumbers bank.new lits.new (map (normal_literal_by (content_scope bank.old) (forms_in bank.old.terms forms.now)) (formulas_at formulas.now places.now)) ns.items) }
+    ensures numbers { IfOk result
+        (λ ns. AreStartNumbers bank.new lits.new (map (normal_literal_by (content_scope bank.old) (forms_in bank.old.terms forms.now))
+        (formulas_at formulas.now places.now)) ns.items) }
     ensures grows { Grows bank.old bank.new }
     ensures right { IsRightNormaliser normal.new bank.new }
     ensures begins { Begins lits.old lits.new }

@@ -50,8 +50,10 @@ impl Unfolding {
         requires formula { IsFormula (content_scope bank.old) (the_term formula.now) }
         requires right { IsRightNormaliser normal.old bank.old }
         requires definitions { (ds : List Definition) × IsUnfolding bank.old self ds }
-        ensures definitions { IfOk result (λ u. (ds : List Definition) → IsUnfolding bank.old self ds → IsUnfolding bank.new u (with_next ds mark (the_term formula.now))) }
-        ensures left { IfOk result (λ u. (ds : List Definition) → IsUnfolding bank.old self ds → u.left.items ≡ self.left.items ++ place_unless (taken_from ds mark (the_term formula.now)) place) }
+        ensures definitions { IfOk result (λ u. (ds : List Definition) → IsUnfolding bank.old self ds
+            → IsUnfolding bank.new u (with_next ds mark (the_term formula.now))) }
+        ensures left { IfOk result (λ u. (ds : List Definition) → IsUnfolding bank.old self ds
+            → u.left.items ≡ self.left.items ++ place_unless (taken_from ds mark (the_term formula.now)) place) }
         ensures grows { Grows bank.old bank.new }
         ensures right { IsRightNormaliser normal.new bank.new }
     {

@@ -142,7 +142,8 @@ pub(crate) fn begin_base<W: Weigher<Waiting>>(core: &mut Core<W>, n: u32) -> Res
     ensures state { OnOk result (state_in core.new ≡ with_beginning (setting_in core.old) (base n) (state_in core.old)) }
     ensures stays { OnOk result (StaysRight core.old core.new) }
     ensures basis { OnOk result (BasisGrows core.old.tables.basis core.new.tables.basis) }
-    ensures tables { OnOk result (core.new.tables ≡ record core.old.tables { basis = core.new.tables.basis; terms = core.new.tables.terms }) }
+    ensures tables { OnOk result
+        (core.new.tables ≡ record core.old.tables { basis = core.new.tables.basis; terms = core.new.tables.terms }) }
     ensures lasts { lasting core.new.tables ≡ lasting core.old.tables }
 {
     let ty = Ty::Base(n);

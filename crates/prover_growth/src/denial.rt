@@ -45,8 +45,11 @@ fn make_denial(alloc: Global, basis: &mut Basis, lit: SatLit) -> Result<Instance
     requires denies { (a : SimpleType) × ((f : Lambda) × Denies basis.old lit a f) }
     ensures made { IfOk result (IsMadeInstance basis.new) }
     ensures principals { IfOk result (λ i. i.principals ≡ lit ∷ []) }
-    ensures alternatives { IfOk result (λ i. (a : SimpleType) (f : Lambda) → Denies basis.old lit a f → map (map (the_literal basis.new)) i.alternatives ≡ all_neg a f (witness_of (rows_in basis.old) (record { type = a; predicate = f }))) }
-    ensures rows { OnOk result ((a : SimpleType) (f : Lambda) → Denies basis.old lit a f → rows_in basis.new ≡ with_row (rows_in basis.old) (record { type = a; predicate = f })) }
+    ensures alternatives { IfOk result (λ i. (a : SimpleType) (f : Lambda) → Denies basis.old lit a f
+        → map (map (the_literal basis.new)) i.alternatives ≡ all_neg a f (witness_of (rows_in basis.old)
+        (record { type = a; predicate = f }))) }
+    ensures rows { OnOk result ((a : SimpleType) (f : Lambda) → Denies basis.old lit a f
+        → rows_in basis.new ≡ with_row (rows_in basis.old) (record { type = a; predicate = f })) }
     ensures good { OnOk result (IsBasis basis.new) }
     ensures widens { OnOk result (BasisWidens basis.old basis.new) }
     ensures declared { declarations_of basis.new ≡ declarations_of basis.old }
@@ -96,10 +99,14 @@ pub(crate) fn deny<W: Weigher<Waiting>>(
     ensures right { OnOk result (IsRightState core.new.tables core.new.plan) }
     ensures made { IfOk result (IsMadeInstance core.new.tables.basis) }
     ensures principals { IfOk result (λ i. i.principals ≡ lit ∷ []) }
-    ensures alternatives { IfOk result (λ i. (a : SimpleType) (f : Lambda) → Denies core.old.tables.basis lit a f → map (map (the_literal core.new.tables.basis)) i.alternatives ≡ all_neg a f (witness_of (rows_in core.old.tables.basis) (record { type = a; predicate = f }))) }
-    ensures rows { OnOk result ((a : SimpleType) (f : Lambda) → Denies core.old.tables.basis lit a f → rows_in core.new.tables.basis ≡ with_row (rows_in core.old.tables.basis) (record { type = a; predicate = f })) }
+    ensures alternatives { IfOk result (λ i. (a : SimpleType) (f : Lambda) → Denies core.old.tables.basis lit a f
+        → map (map (the_literal core.new.tables.basis)) i.alternatives ≡ all_neg a f
+        (witness_of (rows_in core.old.tables.basis) (record { type = a; predicate = f }))) }
+    ensures rows { OnOk result ((a : SimpleType) (f : Lambda) → Denies core.old.tables.basis lit a f
+        → rows_in core.new.tables.basis ≡ with_row (rows_in core.old.tables.basis) (record { type = a; predicate = f })) }
     ensures widens { OnOk result (BasisWidens core.old.tables.basis core.new.tables.basis) }
-    ensures tables { OnOk result (core.new.tables ≡ record core.old.tables { basis = core.new.tables.basis; takers = core.new.tables.takers }) }
+    ensures tables { OnOk result
+        (core.new.tables ≡ record core.old.tables { basis = core.new.tables.basis; takers = core.new.tables.takers }) }
     ensures plan { core.new.plan ≡ core.old.plan }
     ensures lasts { lasting core.new.tables ≡ lasting core.old.tables }
 {

@@ -46,8 +46,11 @@ fn make_term(tables: &mut Tables, parent: usize, head: HoleHead) -> Result<Id, A
     requires right { (q : Queue Planned Delays) × IsRightState tables.old q }
     requires number { parent < length (sketches_in tables.old) }
     requires grows { GrowsSketch (scope_by tables.old.basis) (sketch_at (sketches_in tables.old) parent) (the_hole_head head) }
-    requires last { first_hole [] (growth_by (scope_by tables.old.basis) (the_hole_head head) (sketch_at (sketches_in tables.old) parent)).partial ≡ None }
-    ensures term { IfOk result (λ id. HasTerm tables.new.basis.bank id (term_of (growth_by (scope_by tables.old.basis) (the_hole_head head) (sketch_at (sketches_in tables.old) parent)).partial)) }
+    requires last { first_hole [] (growth_by (scope_by tables.old.basis) (the_hole_head head)
+        (sketch_at (sketches_in tables.old) parent)).partial ≡ None }
+    ensures term { IfOk result
+        (λ id. HasTerm tables.new.basis.bank id
+        (term_of (growth_by (scope_by tables.old.basis) (the_hole_head head) (sketch_at (sketches_in tables.old) parent)).partial)) }
     ensures good { OnOk result (IsBasis tables.new.basis) }
     ensures basis { OnOk result (BasisGrows tables.old.basis tables.new.basis) }
     ensures tables { tables.new ≡ record tables.old { basis = tables.new.basis } }
@@ -71,13 +74,15 @@ fn fill_last<W: Weigher<Waiting>>(
     requires right { IsRightState core.old.tables core.old.plan }
     requires number { parent < length (sketches_in core.old.tables) }
     requires grows { GrowsSketch (scope_by core.old.tables.basis) (sketch_at (sketches_in core.old.tables) parent) (the_hole_head head) }
-    requires last { first_hole [] (growth_by (scope_by core.old.tables.basis) (the_hole_head head) (sketch_at (sketches_in core.old.tables) parent)).partial ≡ None }
+    requires last { first_hole [] (growth_by (scope_by core.old.tables.basis) (the_hole_head head)
+        (sketch_at (sketches_in core.old.tables) parent)).partial ≡ None }
     ensures state { OnOk result (let p = sketch_at (sketches_in core.old.tables) parent in
         state_in core.new
         ≡ with_term core.old.plan.rule.mode p.type (term_of (growth_by (scope_by core.old.tables.basis) (the_hole_head head) p).partial) (state_in core.old)) }
     ensures stays { OnOk result (StaysRight core.old core.new) }
     ensures basis { OnOk result (BasisGrows core.old.tables.basis core.new.tables.basis) }
-    ensures tables { OnOk result (core.new.tables ≡ record core.old.tables { basis = core.new.tables.basis; terms = core.new.tables.terms }) }
+    ensures tables { OnOk result
+        (core.new.tables ≡ record core.old.tables { basis = core.new.tables.basis; terms = core.new.tables.terms }) }
     ensures lasts { lasting core.new.tables ≡ lasting core.old.tables }
 {
     let ty = root_of(&core.tables, parent).try_clone(core.tables.alloc)?;
@@ -101,7 +106,16 @@ pub fn fill<W: Weigher<Waiting>>(
         ≡ with_command (setting_in core.old) (grow (sketch_at (sketches_in core.old.tables) parent) (head_numbered head)) (state_in core.old)) }
     ensures stays { OnOk result (StaysRight core.old core.new) }
     ensures basis { OnOk result (BasisGrows core.old.tables.basis core.new.tables.basis) }
-    ensures tables { OnOk result (core.new.tables ≡ record core.old.tables { basis = core.new.tables.basis; terms = core.new.tables.terms; stems = core.new.tables.stems; open_holes = core.new.tables.open_holes; holes = core.new.tables.holes; roots = core.new.tables.roots }) }
+    ensures tables { OnOk result
+        (core.new.tables ≡ record core.old.tables {
+          basis = core.new.tables.basis;
+          terms = core.new.tables.terms;
+          stems
+              = core.new.tables.stems;
+          open_holes = core.new.tables.open_holes;
+          holes = core.new.tables.holes;
+          roots = core.new.tables.roots;
+        }) }
     ensures lasts { lasting core.new.tables ≡ lasting core.old.tables }
 {
     let filler = numbered_head(head);

@@ -37,7 +37,9 @@ fn choice_fits(tables: &Tables, given: usize) -> bool
 /// How many heads of the logic's own fit a hole of a base type, which so many other heads fit.
 fn count_logical(tables: &Tables, base: u32, given: usize) -> Result<usize, AllocError>
     requires right { (q : Queue Planned Delays) × IsRightState tables.now q }
-    ensures { IfOk result (λ n. n ≡ length (logical_heads (the_offers tables.now.offers) (scope_by tables.now.basis) base (tables.now.offers.choices || (given == 0)))) }
+    ensures { IfOk result
+        (λ n. n ≡ length (logical_heads (the_offers tables.now.offers) (scope_by tables.now.basis) base
+        (tables.now.offers.choices || (given == 0)))) }
 {
     if base == 0 {
         let bases = tables.bases.len();
@@ -53,7 +55,8 @@ fn count_logical(tables: &Tables, base: u32, given: usize) -> Result<usize, Allo
 /// How many names and witnesses fit a hole of a base type.
 fn count_constants(tables: &Tables, base: u32) -> Result<usize, AllocError>
     requires right { (q : Queue Planned Delays) × IsRightState tables.now q }
-    ensures { IfOk result (λ n. n ≡ length (names_for (the_offers tables.now.offers) (scope_by tables.now.basis) base) + length (places_to base 0 (scope_by tables.now.basis).witnesses)) }
+    ensures { IfOk result (λ n. n ≡ length (names_for (the_offers tables.now.offers) (scope_by tables.now.basis) base) + length
+        (places_to base 0 (scope_by tables.now.basis).witnesses)) }
 {
     let names = tables.names.terms_of(&Ty::Base(base));
     let takers = tables.takers.terms_of(&Ty::Base(base));
@@ -64,7 +67,9 @@ fn count_constants(tables: &Tables, base: u32) -> Result<usize, AllocError>
 fn count_heads(tables: &Tables, p: usize) -> Result<usize, AllocError>
     requires right { (q : Queue Planned Delays) × IsRightState tables.now q }
     requires number { p < length (sketches_in tables.now) }
-    ensures { IfOk result (λ n. n ≡ length (heads_for (the_offers tables.now.offers) (scope_by tables.now.basis) (first_hole [] (sketch_at (sketches_in tables.now) p).partial))) }
+    ensures { IfOk result
+        (λ n. n ≡ length (heads_for (the_offers tables.now.offers) (scope_by tables.now.basis)
+        (first_hole [] (sketch_at (sketches_in tables.now) p).partial))) }
 {
     match tables.open_holes.first_base(p) {
         Some(base) => {

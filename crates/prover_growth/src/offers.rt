@@ -55,7 +55,8 @@ fn offer_witness<W: Weigher<Waiting>>(core: &mut Core<W>, ty: &Ty, w: u32) -> Re
         state_in core.new ≡ with_terms core.old.plan.rule.mode a (eta a (constant (witness w)) ∷ []) (state_in core.old)) }
     ensures stays { OnOk result (StaysRight core.old core.new) }
     ensures basis { OnOk result (BasisGrows core.old.tables.basis core.new.tables.basis) }
-    ensures tables { OnOk result (core.new.tables ≡ record core.old.tables { basis = core.new.tables.basis; terms = core.new.tables.terms }) }
+    ensures tables { OnOk result
+        (core.new.tables ≡ record core.old.tables { basis = core.new.tables.basis; terms = core.new.tables.terms }) }
     ensures lasts { lasting core.new.tables ≡ lasting core.old.tables }
 {
     let id = witness_in(&mut core.tables.basis, w, ty)?;
@@ -73,7 +74,8 @@ fn offer_where<W: Weigher<Waiting>>(core: &mut Core<W>, ty: &Ty, w: u32) -> Resu
         ≡ with_terms core.old.plan.rule.mode a (if same_type a r.type then eta a (constant (witness w)) ∷ [] else []) (state_in core.old))) }
     ensures stays { OnOk result (StaysRight core.old core.new) }
     ensures basis { OnOk result (BasisGrows core.old.tables.basis core.new.tables.basis) }
-    ensures tables { OnOk result (core.new.tables ≡ record core.old.tables { basis = core.new.tables.basis; terms = core.new.tables.terms }) }
+    ensures tables { OnOk result
+        (core.new.tables ≡ record core.old.tables { basis = core.new.tables.basis; terms = core.new.tables.terms }) }
     ensures lasts { lasting core.new.tables ≡ lasting core.old.tables }
 {
     if has_witness_type(&core.tables.basis, w, ty) {
@@ -93,7 +95,8 @@ pub(crate) fn offer_early<W: Weigher<Waiting>>(
         state_in core.new ≡ with_terms core.old.plan.rule.mode a (early_terms core.old.plan.rule.mode a s) s) }
     ensures stays { OnOk result (StaysRight core.old core.new) }
     ensures basis { OnOk result (BasisGrows core.old.tables.basis core.new.tables.basis) }
-    ensures tables { OnOk result (core.new.tables ≡ record core.old.tables { basis = core.new.tables.basis; terms = core.new.tables.terms }) }
+    ensures tables { OnOk result
+        (core.new.tables ≡ record core.old.tables { basis = core.new.tables.basis; terms = core.new.tables.terms }) }
     ensures lasts { lasting core.new.tables ≡ lasting core.old.tables }
 {
     if core.plan.mode().terms == 0 {
@@ -147,7 +150,8 @@ pub fn offer_new<W: Weigher<Waiting>>(
         state_in core.new ≡ with_terms core.old.plan.rule.mode a (offered_witness core.old.plan.rule.mode a (constant (witness w)) s) s)) }
     ensures stays { OnOk result (StaysRight core.old core.new) }
     ensures basis { OnOk result (BasisGrows core.old.tables.basis core.new.tables.basis) }
-    ensures tables { OnOk result (core.new.tables ≡ record core.old.tables { basis = core.new.tables.basis; terms = core.new.tables.terms }) }
+    ensures tables { OnOk result
+        (core.new.tables ≡ record core.old.tables { basis = core.new.tables.basis; terms = core.new.tables.terms }) }
     ensures lasts { lasting core.new.tables ≡ lasting core.old.tables }
 {
     let ty = denied_type(core.tables.alloc, &core.tables.basis, lit)?;

@@ -51,7 +51,14 @@ pub(crate) fn open_stem<W: Weigher<Waiting>>(
     ensures state { OnOk result (state_in core.new
         ≡ with_opening (setting_in core.old) (sketch_of (scope_by core.old.tables.basis) (sketches_in core.old.tables) stem) (state_in core.old)) }
     ensures stays { OnOk result (StaysRight core.old core.new) }
-    ensures tables { OnOk result (core.new.tables ≡ record core.old.tables { stems = core.new.tables.stems; open_holes = core.new.tables.open_holes; holes = core.new.tables.holes; roots = core.new.tables.roots }) }
+    ensures tables { OnOk result
+        (core.new.tables ≡ record core.old.tables {
+          stems = core.new.tables.stems;
+          open_holes = core.new.tables.open_holes;
+          holes
+              = core.new.tables.holes;
+          roots = core.new.tables.roots;
+        }) }
     ensures lasts { lasting core.new.tables ≡ lasting core.old.tables }
 {
     let p = core.tables.stems.len();
@@ -66,7 +73,14 @@ fn begin_function<W: Weigher<Waiting>>(core: &mut Core<W>, ty: &Ty) -> Result<()
     requires function { (a : SimpleType) × ((b : SimpleType) × (the_type ty.now ≡ arrow a b)) }
     ensures state { OnOk result (state_in core.new ≡ with_beginning (setting_in core.old) (the_type ty.now) (state_in core.old)) }
     ensures stays { OnOk result (StaysRight core.old core.new) }
-    ensures tables { OnOk result (core.new.tables ≡ record core.old.tables { stems = core.new.tables.stems; open_holes = core.new.tables.open_holes; holes = core.new.tables.holes; roots = core.new.tables.roots }) }
+    ensures tables { OnOk result
+        (core.new.tables ≡ record core.old.tables {
+          stems = core.new.tables.stems;
+          open_holes = core.new.tables.open_holes;
+          holes
+              = core.new.tables.holes;
+          roots = core.new.tables.roots;
+        }) }
     ensures lasts { lasting core.new.tables ≡ lasting core.old.tables }
 {
     let alloc = core.tables.alloc;
@@ -82,7 +96,16 @@ fn begin<W: Weigher<Waiting>>(core: &mut Core<W>, ty: &Ty) -> Result<(), AllocEr
     ensures state { OnOk result (state_in core.new ≡ with_beginning (setting_in core.old) (the_type ty.now) (state_in core.old)) }
     ensures stays { OnOk result (StaysRight core.old core.new) }
     ensures basis { OnOk result (BasisGrows core.old.tables.basis core.new.tables.basis) }
-    ensures tables { OnOk result (core.new.tables ≡ record core.old.tables { basis = core.new.tables.basis; terms = core.new.tables.terms; stems = core.new.tables.stems; open_holes = core.new.tables.open_holes; holes = core.new.tables.holes; roots = core.new.tables.roots }) }
+    ensures tables { OnOk result
+        (core.new.tables ≡ record core.old.tables {
+          basis = core.new.tables.basis;
+          terms = core.new.tables.terms;
+          stems
+              = core.new.tables.stems;
+          open_holes = core.new.tables.open_holes;
+          holes = core.new.tables.holes;
+          roots = core.new.tables.roots;
+        }) }
     ensures lasts { lasting core.new.tables ≡ lasting core.old.tables }
 {
     match ty {
@@ -136,7 +159,16 @@ pub fn prepare<W: Weigher<Waiting>>(core: &mut Core<W>, ty: &Ty) -> Result<(), A
     ensures state { OnOk result (state_in core.new ≡ with_preparation (setting_in core.old) (the_type ty.now) (state_in core.old)) }
     ensures stays { OnOk result (StaysRight core.old core.new) }
     ensures basis { OnOk result (BasisGrows core.old.tables.basis core.new.tables.basis) }
-    ensures tables { OnOk result (core.new.tables ≡ record core.old.tables { basis = core.new.tables.basis; terms = core.new.tables.terms; stems = core.new.tables.stems; open_holes = core.new.tables.open_holes; holes = core.new.tables.holes; roots = core.new.tables.roots }) }
+    ensures tables { OnOk result
+        (core.new.tables ≡ record core.old.tables {
+          basis = core.new.tables.basis;
+          terms = core.new.tables.terms;
+          stems
+              = core.new.tables.stems;
+          open_holes = core.new.tables.open_holes;
+          holes = core.new.tables.holes;
+          roots = core.new.tables.roots;
+        }) }
     ensures lasts { lasting core.new.tables ≡ lasting core.old.tables }
 {
     if is_prepared(core, ty) {

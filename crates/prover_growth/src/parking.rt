@@ -26,7 +26,8 @@ fn push_holes(tables: &mut Tables, stem: &Stem, ty: &Ty) -> Result<(), AllocErro
     requires right { (q : Queue Planned Delays) × IsRightState tables.old q }
     requires stem { IsStem (scope_by tables.old.basis) (sketches_in tables.old) stem.now }
     requires typed { IsStemType (scope_by tables.old.basis) (sketches_in tables.old) stem.now (the_type ty.now) }
-    ensures holes { OnOk result (tables.new.open_holes ≡ tables.old.open_holes ++ holes_in [] (sketch_of (scope_by tables.old.basis) (sketches_in tables.old) stem.now).partial ∷ []) }
+    ensures holes { OnOk result (tables.new.open_holes ≡ tables.old.open_holes ++ holes_in []
+        (sketch_of (scope_by tables.old.basis) (sketches_in tables.old) stem.now).partial ∷ []) }
     ensures tables { tables.new ≡ record tables.old { open_holes = tables.new.open_holes } }
 {
     match stem {
@@ -46,8 +47,11 @@ fn push_holes(tables: &mut Tables, stem: &Stem, ty: &Ty) -> Result<(), AllocErro
 /// Lists the type of a partial term, where it can be a new one.
 fn push_root(tables: &mut Tables, stem: &Stem) -> Result<(), AllocError>
     requires stem { IsStem (scope_by tables.old.basis) (sketches_in tables.old) stem.now }
-    requires roots { (a : SimpleType) → list_any (λ p. same_type a p.type) (sketches_in tables.old) ≡ list_any (same_type a) tables.old.roots }
-    ensures roots { OnOk result ((a : SimpleType) → list_any (λ p. same_type a p.type) (sketches_in tables.old ++ sketch_of (scope_by tables.old.basis) (sketches_in tables.old) stem.now ∷ []) ≡ list_any (same_type a) tables.new.roots) }
+    requires roots { (a : SimpleType) → list_any (λ p. same_type a p.type) (sketches_in tables.old) ≡ list_any (same_type a)
+        tables.old.roots }
+    ensures roots { OnOk result ((a : SimpleType) → list_any (λ p. same_type a p.type)
+        (sketches_in tables.old ++ sketch_of (scope_by tables.old.basis) (sketches_in tables.old) stem.now ∷ []) ≡ list_any (same_type a)
+        tables.new.roots) }
     ensures tables { tables.new ≡ record tables.old { roots = tables.new.roots } }
 {
     match stem {
@@ -88,8 +92,16 @@ pub(crate) fn park<W: Weigher<Waiting>>(
     ensures state { OnOk result (let s = state_in core.old in
         state_in core.new ≡ record s { parked = s.parked ++ sketch_of (scope_by core.old.tables.basis) (sketches_in core.old.tables) stem ∷ [] }) }
     ensures right { OnOk result (IsRightState core.new.tables core.new.plan) }
-    ensures sketches { OnOk result (sketches_in core.new.tables ≡ sketches_in core.old.tables ++ sketch_of (scope_by core.old.tables.basis) (sketches_in core.old.tables) stem ∷ []) }
-    ensures tables { OnOk result (core.new.tables ≡ record core.old.tables { stems = core.new.tables.stems; open_holes = core.new.tables.open_holes; holes = core.new.tables.holes; roots = core.new.tables.roots }) }
+    ensures sketches { OnOk result (sketches_in core.new.tables ≡ sketches_in core.old.tables ++ sketch_of (scope_by core.old.tables.basis)
+        (sketches_in core.old.tables) stem ∷ []) }
+    ensures tables { OnOk result
+        (core.new.tables ≡ record core.old.tables {
+          stems = core.new.tables.stems;
+          open_holes = core.new.tables.open_holes;
+          holes
+              = core.new.tables.holes;
+          roots = core.new.tables.roots;
+        }) }
     ensures plan { core.new.plan ≡ core.old.plan }
     ensures lasts { lasting core.new.tables ≡ lasting core.old.tables }
 {

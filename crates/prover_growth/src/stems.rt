@@ -47,7 +47,9 @@ fn grown_from(
     requires number { parent < length (sketches_in tables.now) }
     requires takes { TakesHead (scope_by tables.now.basis) (sketch_at (sketches_in tables.now) parent).partial (the_hole_head head) }
     requires before { before ≡ (sketch_at (sketches_in tables.now) parent).partial }
-    ensures { IfOk result (λ partial. partial ≡ (growth_by (scope_by tables.now.basis) (the_hole_head head) (sketch_at (sketches_in tables.now) parent)).partial) }
+    ensures { IfOk result
+        (λ partial. partial ≡ (growth_by (scope_by tables.now.basis) (the_hole_head head)
+        (sketch_at (sketches_in tables.now) parent)).partial) }
 {
     let ty = taken_type(tables, parent, head)?;
     Ok(before.with_head(tables.alloc, &head_of(head), &ty)?)

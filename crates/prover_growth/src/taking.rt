@@ -20,7 +20,9 @@ pub(crate) fn taken_type(tables: &Tables, p: usize, head: HoleHead) -> Result<Ty
     requires right { (q : Queue Planned Delays) × IsRightState tables.now q }
     requires number { p < length (sketches_in tables.now) }
     requires takes { TakesHead (scope_by tables.now.basis) (sketch_at (sketches_in tables.now) p).partial (the_hole_head head) }
-    ensures { IfOk result (λ ty. (takes : TakesHead (scope_by tables.now.basis) (sketch_at (sketches_in tables.now) p).partial (the_hole_head head)) → the_type ty ≡ takes.type) }
+    ensures { IfOk result
+        (λ ty. (takes : TakesHead (scope_by tables.now.basis) (sketch_at (sketches_in tables.now) p).partial (the_hole_head head))
+        → the_type ty ≡ takes.type) }
 {
     Ok(
         tables
@@ -32,7 +34,8 @@ pub(crate) fn taken_type(tables: &Tables, p: usize, head: HoleHead) -> Result<Ty
 /// Whether no hole is left where the first hole of a partial term is filled with a head of the type.
 pub(crate) fn is_last(tables: &Tables, p: usize, ty: &Ty) -> bool
     requires number { p < length tables.now.open_holes }
-    ensures { (holes : List Hole) → slice_get tables.now.open_holes p ≡ Some holes → 0 < length holes → result ≡ nat_eq (length (after_head (the_type ty.now) holes)) 0 }
+    ensures { (holes : List Hole) → slice_get tables.now.open_holes p ≡ Some holes → 0 < length holes
+        → result ≡ nat_eq (length (after_head (the_type ty.now) holes)) 0 }
 {
     match ty {
         Ty::Base(_) => tables.open_holes.is_single(p),

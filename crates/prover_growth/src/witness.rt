@@ -50,7 +50,15 @@ pub fn add_witness<W: Weigher<Waiting>>(core: &mut Core<W>, lit: SatLit) -> Resu
         → rows_in core.new.tables.basis ≡ with_row (rows_in core.old.tables.basis) (record { type = a; predicate = f })) }
     ensures basis { OnOk result (BasisWidens core.old.tables.basis core.new.tables.basis) }
     ensures steps { OnOk result (StepsGrow (IsMadeInstance core.new.tables.basis) core.old.tables.steps core.new.tables.steps) }
-    ensures tables { OnOk result (core.new.tables ≡ record core.old.tables { basis = core.new.tables.basis; seen = core.new.tables.seen; steps = core.new.tables.steps; solver = core.new.tables.solver; takers = core.new.tables.takers }) }
+    ensures tables { OnOk result
+        (core.new.tables ≡ record core.old.tables {
+          basis = core.new.tables.basis;
+          seen = core.new.tables.seen;
+          steps
+              = core.new.tables.steps;
+          solver = core.new.tables.solver;
+          takers = core.new.tables.takers;
+        }) }
     ensures lasts { lasting core.new.tables ≡ lasting core.old.tables }
 {
     let output = denied_target(&core.tables.basis, lit);

@@ -28,13 +28,13 @@ setting_for p m = record { scope = scope_of p.declared; mode = m }
 -- The refutation is accepted for the start and small enough for a text. Each of its lines is reached and comes from the clauses. These are
 -- refuted within so many conflicts, and from the log of what was learned the refutation is rebuilt.
 pub record RefutesFrom (scope : Scope) (start : List Literal) (clauses : List Clause) (conflicts : ℕ) (refutation : Refutation) : Type 0
-    where
-  pub accepted : IsAccepted scope start refutation
-  pub reached : IsEachReached refutation.lines
-  pub small : IsSmall refutation
-  pub origin : EachComesFrom start clauses refutation.lines
-  pub within : AreRefutedWithin conflicts clauses
-  pub shortly : AreRefutedShortly clauses within.learning refutation
+  where
+    pub accepted : IsAccepted scope start refutation
+    pub reached : IsEachReached refutation.lines
+    pub small : IsSmall refutation
+    pub origin : EachComesFrom start clauses refutation.lines
+    pub within : AreRefutedWithin conflicts clauses
+    pub shortly : AreRefutedShortly clauses within.learning refutation
 
 -- the run from literals is proved after so many commands, with a refutation
 pub record IsProvedBy (setting : Setting) (start : List Literal) (n : ℕ) (refutation : Refutation) : Type 0 where

@@ -52,14 +52,14 @@ SpentIsNotRefuted =
 abbrev pub SpentEndsNoLater : Type 0
 SpentEndsNoLater =
     (p : PlainProblem) (m : Mode) (n conflicts : ℕ) (refutation : Refutation) (spent : IsSpent (setting_for p m) (start p) conflicts)
-        (refuted : IsRefuted p m n refutation)
+    (refuted : IsRefuted p m n refutation)
     → spent.commands ≤ n
 
 -- and earlier where all that the proved run learned, it learned too
 abbrev pub SpentEndsEarlier : Type 0
 SpentEndsEarlier =
     (p : PlainProblem) (m : Mode) (n conflicts : ℕ) (refutation : Refutation) (spent : IsSpent (setting_for p m) (start p) conflicts)
-        (refuted : IsRefuted p m n refutation)
+    (refuted : IsRefuted p m n refutation)
     → IsLearnedAmong refuted.within.learning spent.spent.learning → spent.commands < n
 
 -- a log uses one list of instances

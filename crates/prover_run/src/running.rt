@@ -56,7 +56,8 @@ pub fn refutation_of(alloc: Global, tables: &Tables) -> Result<SharedRefutation,
     requires run { AreRunTables tables.now }
     requires ends { results tables.now.solver.log ≡ learned tables.now.solver ++ [] ∷ [] }
     requires propagated { ReachesFalse (tables.now.solver.clauses ++ learned tables.now.solver) [] }
-    ensures { IfOk result (RefutesFrom (without_witnesses tables.now.basis.bank) (start_in tables.now) (clauses_of tables.now) (length (learned tables.now.solver))) }
+    ensures { IfOk result (RefutesFrom (without_witnesses tables.now.basis.bank) (start_in tables.now) (clauses_of tables.now)
+        (length (learned tables.now.solver))) }
 {
     let refutation = refutation_by(alloc, tables)?;
     Ok(refutation)
@@ -72,7 +73,8 @@ fn next<W: Weigher<Waiting>>(
     requires ready { search.old.is_refused ≡ false }
     ensures ended { IfOk result (λ o. IfSome o (λ e. GoesOnUntil (setting_by search.old.core.tables search.old.core.plan) (start_in search.old.core.tables) search.old.core.tables.done
         → EndsFrom (setting_by search.old.core.tables search.old.core.plan) (start_in search.old.core.tables) nodes e)) }
-    ensures goes_on { IfOk result (λ o. IfNone o (GoesOnTo search.old.core.tables search.old.core.plan search.new.core.tables search.new.core.plan)) }
+    ensures goes_on { IfOk result
+        (λ o. IfNone o (GoesOnTo search.old.core.tables search.old.core.plan search.new.core.tables search.new.core.plan)) }
     ensures under_way { OnOk result (IsUnderWay search.new.core.tables search.new.core.plan search.new.mode) }
     ensures mode { search.new.mode ≡ search.old.mode }
     ensures ready { OnOk result (search.new.is_refused ≡ false) }

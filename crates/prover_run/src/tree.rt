@@ -17,7 +17,8 @@ use term_bank::equal_ids_for_equal_terms;
 pub fn tree_of(alloc: Global, tables: &Tables, nodes: u32) -> Result<Stripped, AllocError>
     requires run { AreRunTables tables.now }
     requires ends { results tables.now.solver.log ≡ learned tables.now.solver ++ [] ∷ [] }
-    ensures { IfOk result (IsTreeFor (without_witnesses tables.now.basis.bank) (start_in tables.now) (start_in tables.now) (input_of tables.now) nodes) }
+    ensures { IfOk result (IsTreeFor (without_witnesses tables.now.basis.bank) (start_in tables.now) (start_in tables.now)
+        (input_of tables.now) nodes) }
 {
     let basis = &tables.basis;
     let steps = &tables.steps;
@@ -49,7 +50,8 @@ pub fn tree_asked(
 ) -> Result<Option<Stripped>, AllocError>
     requires run { AreRunTables tables.now }
     requires ends { results tables.now.solver.log ≡ learned tables.now.solver ++ [] ∷ [] }
-    ensures { IfOk result (IsTreeAsked (without_witnesses tables.now.basis.bank) (start_in tables.now) (start_in tables.now) (input_of tables.now) nodes) }
+    ensures { IfOk result (IsTreeAsked (without_witnesses tables.now.basis.bank) (start_in tables.now) (start_in tables.now)
+        (input_of tables.now) nodes) }
 {
     match nodes {
         None => Ok(None),

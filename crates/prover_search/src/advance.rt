@@ -33,7 +33,8 @@ fn go<W: Weigher<Waiting>>(core: &mut Core<W>, clock: u32, limit: u32) -> Result
     requires limit { limit ≡ core.old.plan.rule.mode.commands }
     requires below { core.old.tables.done ≢ limit }
     ensures running { OnOk result (IsRunning core.new.tables core.new.plan) }
-    ensures goes_on { OnOk result (StepGoesOn (record { tables = core.old.tables; plan = core.old.plan }) (record { tables = core.new.tables; plan = core.new.plan })) }
+    ensures goes_on { OnOk result (StepGoesOn (record { tables = core.old.tables; plan = core.old.plan })
+        (record { tables = core.new.tables; plan = core.new.plan })) }
     ensures rule { OnOk result (core.new.plan.rule ≡ core.old.plan.rule) }
     ensures setting { OnOk result (setting_in core.new ≡ setting_in core.old) }
     ensures start { OnOk result (start_in core.new.tables ≡ start_in core.old.tables) }
@@ -54,7 +55,8 @@ pub(crate) fn advance<W: Weigher<Waiting>>(
     requires running { IsRunning core.old.tables core.old.plan }
     requires mode { core.old.plan.rule.mode ≡ mode.now }
     ensures running { OnOk result (IsRunning core.new.tables core.new.plan) }
-    ensures answers { IfOk result (AnswersStep (record { tables = core.old.tables; plan = core.old.plan }) (record { tables = core.new.tables; plan = core.new.plan })) }
+    ensures answers { IfOk result (AnswersStep (record { tables = core.old.tables; plan = core.old.plan })
+        (record { tables = core.new.tables; plan = core.new.plan })) }
     ensures rule { OnOk result (core.new.plan.rule ≡ core.old.plan.rule) }
     ensures setting { OnOk result (setting_in core.new ≡ setting_in core.old) }
     ensures start { OnOk result (start_in core.new.tables ≡ start_in core.old.tables) }

@@ -26,7 +26,8 @@ pub(crate) fn apply_alone<W: Weigher<Waiting>>(
     requires ready { IsReadyCore core.old }
     requires number { IsNumberIn core.old.tables.basis.lits lit }
     requires unwitnessed { makes_witness rule ≡ false }
-    requires fits { (alternatives : List (List Literal)) × IsInstanceBy core.old.tables.basis.bank core.old.tables.basis.lits (rows_in core.old.tables.basis) (AtOne rule lit) alternatives }
+    requires fits { (alternatives : List (List Literal)) × IsInstanceBy core.old.tables.basis.bank core.old.tables.basis.lits
+        (rows_in core.old.tables.basis) (AtOne rule lit) alternatives }
     ensures state { OnOk result ((alternatives : List (List Literal)) → IsInstanceBy core.old.tables.basis.bank core.old.tables.basis.lits (rows_in core.old.tables.basis) (AtOne rule lit) alternatives
         → state_in core.new
         ≡ with_instance core.old.plan.rule.mode (the_literal core.old.tables.basis lit ∷ []) alternatives (state_in core.old)) }

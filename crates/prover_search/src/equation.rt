@@ -90,7 +90,8 @@ fn decompose<W: Weigher<Waiting>>(
     requires number { IsNumberIn core.old.tables.basis.lits lit }
     requires left_place { IsPlace core.old.tables.basis.bank.terms sides.left }
     requires right_place { IsPlace core.old.tables.basis.bank.terms sides.right }
-    requires denies { (n : ℕ) × (the_literal core.old.tables.basis lit ≡ minus (eq (base (suc n)) (term_at core.old.tables.basis.bank.terms sides.left) (term_at core.old.tables.basis.bank.terms sides.right))) }
+    requires denies { (n : ℕ) × (the_literal core.old.tables.basis lit ≡ minus (eq (base (suc n))
+        (term_at core.old.tables.basis.bank.terms sides.left) (term_at core.old.tables.basis.bank.terms sides.right))) }
     ensures state { OnOk result (let s = term_at core.old.tables.basis.bank.terms sides.left in let t = term_at core.old.tables.basis.bank.terms sides.right in (n : ℕ) → the_literal core.old.tables.basis lit ≡ minus (eq (base (suc n)) s t)
         → state_in core.new ≡ with_decomposition (setting_in core.old) (base (suc n)) s t (state_in core.old)) }
     ensures advances { OnOk result (AdvancesAlone core.old core.new) }

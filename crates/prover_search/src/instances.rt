@@ -31,7 +31,8 @@ pub(crate) fn mate<W: Weigher<Waiting>>(
     requires ready { IsReadyCore core.old }
     requires first { IsNumberIn core.old.tables.basis.lits first }
     requires second { IsNumberIn core.old.tables.basis.lits second }
-    requires typed { Mates (scope_by core.old.tables.basis) (the_literal core.old.tables.basis first) (the_literal core.old.tables.basis second) }
+    requires typed { Mates (scope_by core.old.tables.basis) (the_literal core.old.tables.basis first)
+        (the_literal core.old.tables.basis second) }
     ensures state { OnOk result (state_in core.new
         ≡ with_mating (setting_in core.old) (the_literal core.old.tables.basis first) (the_literal core.old.tables.basis second) (state_in core.old)) }
     ensures advances { OnOk result (AdvancesAlone core.old core.new) }
@@ -51,7 +52,8 @@ pub(crate) fn confront<W: Weigher<Waiting>>(
     requires ready { IsReadyCore core.old }
     requires first { IsNumberIn core.old.tables.basis.lits first }
     requires second { IsNumberIn core.old.tables.basis.lits second }
-    requires typed { Confronts (scope_by core.old.tables.basis) (the_literal core.old.tables.basis first) (the_literal core.old.tables.basis second) }
+    requires typed { Confronts (scope_by core.old.tables.basis) (the_literal core.old.tables.basis first)
+        (the_literal core.old.tables.basis second) }
     ensures state { OnOk result (let l = the_literal core.old.tables.basis first in let m = the_literal core.old.tables.basis second in
         state_in core.new ≡ with_confrontation (setting_in core.old) l m l.atom m.atom (state_in core.old)) }
     ensures advances { OnOk result (AdvancesAlone core.old core.new) }
@@ -71,7 +73,8 @@ pub(crate) fn instantiate<W: Weigher<Waiting>>(
     requires number { IsNumberIn core.old.tables.basis.lits lit }
     requires place { IsPlace core.old.tables.basis.bank.terms id }
     requires small { type_depth (term_at core.old.tables.basis.bank.terms id) ≤ type_limit }
-    requires typed { Instantiates (scope_by core.old.tables.basis) (the_literal core.old.tables.basis lit) (term_at core.old.tables.basis.bank.terms id) }
+    requires typed { Instantiates (scope_by core.old.tables.basis) (the_literal core.old.tables.basis lit)
+        (term_at core.old.tables.basis.bank.terms id) }
     ensures state { OnOk result (let l = the_literal core.old.tables.basis lit in
         state_in core.new
         ≡ with_instantiation (setting_in core.old) l l.atom (term_at core.old.tables.basis.bank.terms id) (state_in core.old)) }
@@ -90,7 +93,8 @@ pub(crate) fn choose<W: Weigher<Waiting>>(core: &mut Core<W>, id: Id) -> Result<
     requires ready { IsReadyCore core.old }
     requires place { IsPlace core.old.tables.basis.bank.terms id }
     requires small { IsSmallTerm (term_at core.old.tables.basis.bank.terms id) }
-    requires typed { let f = term_at core.old.tables.basis.bank.terms id in IsCanonical (scope_by core.old.tables.basis) [] (predicate (binder_of f)) f }
+    requires typed { let f = term_at core.old.tables.basis.bank.terms id in IsCanonical (scope_by core.old.tables.basis) []
+        (predicate (binder_of f)) f }
     ensures state { OnOk result (let f = term_at core.old.tables.basis.bank.terms id in
         state_in core.new ≡ with_instance core.old.plan.rule.mode [] (cho (binder_of f) f) (state_in core.old)) }
     ensures advances { OnOk result (AdvancesAlone core.old core.new) }
@@ -105,7 +109,8 @@ pub(crate) fn describe<W: Weigher<Waiting>>(core: &mut Core<W>, id: Id) -> Resul
     requires ready { IsReadyCore core.old }
     requires place { IsPlace core.old.tables.basis.bank.terms id }
     requires small { IsSmallTerm (term_at core.old.tables.basis.bank.terms id) }
-    requires typed { let f = term_at core.old.tables.basis.bank.terms id in IsCanonical (scope_by core.old.tables.basis) [] (predicate (binder_of f)) f }
+    requires typed { let f = term_at core.old.tables.basis.bank.terms id in IsCanonical (scope_by core.old.tables.basis) []
+        (predicate (binder_of f)) f }
     ensures state { OnOk result (let f = term_at core.old.tables.basis.bank.terms id in
         state_in core.new ≡ with_instance core.old.plan.rule.mode [] (des (binder_of f) f) (state_in core.old)) }
     ensures advances { OnOk result (AdvancesAlone core.old core.new) }

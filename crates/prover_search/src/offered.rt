@@ -22,7 +22,8 @@ fn shallow_atoms(alloc: Global, basis: &Basis, start: &[SatLit]) -> Result<Vec<I
     requires basis { IsBasis basis.now }
     requires numbers { All (IsNumberIn basis.now.lits) start.now }
     ensures within { IfOk result (λ atoms. All (λ id. id < length basis.now.bank.terms) atoms.items) }
-    ensures atoms { IfOk result (λ atoms. map (term_at basis.now.bank.terms) atoms.items ≡ map (λ l. l.atom) (filter is_shallow_literal (map (the_literal basis.now) start.now))) }
+    ensures atoms { IfOk result (λ atoms. map (term_at basis.now.bank.terms) atoms.items ≡ map (λ l. l.atom)
+        (filter is_shallow_literal (map (the_literal basis.now) start.now))) }
 {
     let mut atoms = Vec::new(alloc);
     for i in 0..start.len() {
@@ -43,7 +44,8 @@ pub(crate) fn start_offers(
 ) -> Result<Offers, AllocError>
     requires basis { IsBasis basis.now }
     requires numbers { All (IsNumberIn basis.now.lits) start.now }
-    ensures { IfOk result (λ offers. the_offers offers ≡ offered_heads mode.now (without_witnesses basis.now.bank) (filter is_shallow_literal (without_repeats (map (the_literal basis.now) start.now)))) }
+    ensures { IfOk result (λ offers. the_offers offers ≡ offered_heads mode.now (without_witnesses basis.now.bank)
+        (filter is_shallow_literal (without_repeats (map (the_literal basis.now) start.now)))) }
 {
     let atoms = shallow_atoms(alloc, basis, start)?;
     offered_heads(alloc, mode, &basis.bank, atoms.as_slice())

@@ -56,7 +56,8 @@ fn number_start(
     requires typed { IsTyped problem.now }
     requires good { IsBasis basis.old }
     requires scope { content_scope basis.old.bank ≡ scope_of problem.now.declared }
-    ensures numbers { IfOk result (λ lits. AreStartNumbers basis.new.bank basis.new.lits (start_literals (unfolded_problem problem.now)) lits.items) }
+    ensures numbers { IfOk result (λ lits. AreStartNumbers basis.new.bank basis.new.lits (start_literals (unfolded_problem problem.now))
+        lits.items) }
     ensures good { OnOk result (IsBasis basis.new) }
     ensures grows { OnOk result (BasisGrows basis.old basis.new) }
 {
@@ -82,7 +83,8 @@ impl Prepared {
 
     /// A copy, with which a further search may begin.
     pub fn try_clone(&self, alloc: Global) -> Result<Prepared, AllocError>
-        ensures { IfOk result (λ prepared. (p : PlainProblem) → IsPreparedFor p self.now.basis self.now.start.items → IsPreparedFor p prepared.basis prepared.start.items) }
+        ensures { IfOk result (λ prepared. (p : PlainProblem) → IsPreparedFor p self.now.basis self.now.start.items
+            → IsPreparedFor p prepared.basis prepared.start.items) }
     {
         let mut start = Vec::new(alloc);
         start.extend_from_slice(self.start.as_slice())?;

@@ -108,9 +108,11 @@ impl<W: Weigher<Waiting>> Search<W> {
     /// Asks the solver, and then carries out the next command, where one is left and the limit isn't reached.
     pub fn step(&mut self) -> Result<Stepped, AllocError>
         requires under_way { self.old.is_refused ≡ false → IsUnderWay self.old.core.tables self.old.core.plan self.old.mode }
-        ensures answers { IfOk result (AnswersStep (record { tables = self.old.core.tables; plan = self.old.core.plan }) (record { tables = self.new.core.tables; plan = self.new.core.plan })) }
+        ensures answers { IfOk result (AnswersStep (record { tables = self.old.core.tables; plan = self.old.core.plan })
+            (record { tables = self.new.core.tables; plan = self.new.core.plan })) }
         ensures under_way { self.new.is_refused ≡ false → IsUnderWay self.new.core.tables self.new.core.plan self.new.mode }
-        ensures setting { OnOk result (setting_by self.new.core.tables self.new.core.plan ≡ setting_by self.old.core.tables self.old.core.plan) }
+        ensures setting { OnOk result (setting_by self.new.core.tables self.new.core.plan ≡ setting_by self.old.core.tables
+            self.old.core.plan) }
         ensures start { OnOk result (start_in self.new.core.tables ≡ start_in self.old.core.tables) }
         ensures mode { self.new.mode ≡ self.old.mode }
         ensures ready { OnOk result (self.new.is_refused ≡ false) }

@@ -38,7 +38,8 @@ pub(crate) fn sides_of(basis: &Basis, lit: SatLit) -> Sides
     requires equation { IsEquated (the_atom basis.now lit) }
     ensures left { IsPlace basis.now.bank.terms result.left }
     ensures right { IsPlace basis.now.bank.terms result.right }
-    ensures equation { let t = the_atom basis.now lit in t ≡ eq (equation_type t) (term_at basis.now.bank.terms result.left) (term_at basis.now.bank.terms result.right) }
+    ensures equation { let t = the_atom basis.now lit in t ≡ eq (equation_type t) (term_at basis.now.bank.terms result.left)
+        (term_at basis.now.bank.terms result.right) }
 {
     let atom = atom_of(basis, lit);
     Sides {

@@ -78,7 +78,8 @@ pub(crate) fn start_all<W: Weigher<Waiting>>(
     requires right { IsRightState core.old.tables core.old.plan }
     requires steps { core.old.tables.steps ≡ ([], []) }
     requires numbers { All (IsNumberIn core.old.tables.basis.lits) start.now }
-    ensures { OnOk result (IsStarting core.old.tables core.old.plan core.new.tables core.new.plan (without_repeats (map (bank_literal core.old.tables.basis.bank.terms core.old.tables.basis.lits) start.now))) }
+    ensures { OnOk result (IsStarting core.old.tables core.old.plan core.new.tables core.new.plan
+        (without_repeats (map (bank_literal core.old.tables.basis.bank.terms core.old.tables.basis.lits) start.now))) }
 {
     for i in 0..start.len() {
         start_with(core, start[i])?;

@@ -25,7 +25,8 @@ use tableau_calculus::OnePlace;
 fn mate_with_noted<W: Weigher<Waiting>>(core: &mut Core<W>, lit: SatLit) -> Result<(), AllocError>
     requires right { IsRightState core.old.tables core.old.plan }
     requires number { IsNumberIn core.old.tables.basis.lits lit }
-    ensures state { OnOk result (state_in core.new ≡ with_matings (setting_in core.old) (the_literal core.old.tables.basis lit) (state_in core.old)) }
+    ensures state { OnOk result (state_in core.new ≡ with_matings (setting_in core.old) (the_literal core.old.tables.basis lit)
+        (state_in core.old)) }
     ensures advances { OnOk result (AdvancesAlone core.old core.new) }
     ensures lasts { lasting core.new.tables ≡ lasting core.old.tables }
 {

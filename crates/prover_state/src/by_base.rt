@@ -62,7 +62,8 @@ impl ByBase {
 
     /// Appends a number under a base type.
     pub fn push(&mut self, n: u32, k: usize) -> Result<(), AllocError>
-        ensures { OnOk result ((m : _) → ids_of (base m) self.new ≡ (if nat_eq n m then ids_of (base m) self.old ++ k ∷ [] else ids_of (base m) self.old)) }
+        ensures { OnOk result
+            ((m : _) → ids_of (base m) self.new ≡ (if nat_eq n m then ids_of (base m) self.old ++ k ∷ [] else ids_of (base m) self.old)) }
     {
         reach(self.alloc, &mut self.lists, n)?;
         let number = small(k)?;

@@ -187,7 +187,8 @@ impl Cells {
         rest: usize,
     ) -> Result<usize, AllocError>
         requires linked { rest ≤ length self.old }
-        ensures list { IfOk result (λ k. chain self.new k ≡ blank_hole (reverse context.now.value) (the_type ty.now) ∷ chain self.old rest) }
+        ensures list { IfOk result (λ k. chain self.new k ≡ blank_hole (reverse context.now.value) (the_type ty.now) ∷ chain self.old
+            rest) }
         ensures within { IfOk result (λ k. k ≤ length self.new) }
         ensures extends { ExtendsCells self.old self.new }
     {
@@ -212,7 +213,8 @@ impl Cells {
         rest: usize,
     ) -> Result<usize, AllocError>
         requires linked { rest ≤ length self.old }
-        ensures list { IfOk result (λ k. chain self.new k ≡ argument_holes (reverse context.now.value) (the_type ty.now) ++ chain self.old rest) }
+        ensures list { IfOk result (λ k. chain self.new k ≡ argument_holes (reverse context.now.value) (the_type ty.now) ++ chain self.old
+            rest) }
         ensures within { IfOk result (λ k. k ≤ length self.new) }
         ensures extends { ExtendsCells self.old self.new }
     {

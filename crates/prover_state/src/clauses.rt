@@ -90,9 +90,11 @@ pub(crate) fn add_clauses(
     atoms: usize,
     instance: Instance,
 ) -> Result<(), AllocError>
-    requires numbers { Each (Each (λ l. l.var.0 < atoms)) (with_clauses numbers (the_clauses steps.old) (instance_clauses numbers instance.principals instance.alternatives)) }
+    requires numbers { Each (Each (λ l. l.var.0 < atoms)) (with_clauses numbers (the_clauses steps.old)
+        (instance_clauses numbers instance.principals instance.alternatives)) }
     requires same { solver.old.clauses ≡ the_clauses steps.old }
-    ensures clauses { OnOk result (the_clauses steps.new ≡ with_clauses numbers (the_clauses steps.old) (instance_clauses numbers instance.principals instance.alternatives)) }
+    ensures clauses { OnOk result (the_clauses steps.new ≡ with_clauses numbers (the_clauses steps.old)
+        (instance_clauses numbers instance.principals instance.alternatives)) }
     ensures same { OnOk result (solver.new.clauses ≡ the_clauses steps.new) }
     ensures steps { OnOk result (StepsGrow (λ i. i ≡ instance) steps.old steps.new) }
     ensures learned { learned solver.new ≡ learned solver.old }

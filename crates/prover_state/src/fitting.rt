@@ -64,8 +64,10 @@ impl Tables {
     fn later_head(&self, base: u32, witnesses: usize, place: usize) -> HoleHead
         requires right { (q : Queue Planned Delays) × IsRightState self.now q }
         requires few { witnesses ≤ length (rows_in self.now.basis) }
-        requires within { place < length (later_heads (the_offers self.now.offers) (with_rows (without_witnesses self.now.basis.bank) (take witnesses (rows_in self.now.basis))) base true) }
-        ensures { slice_get (later_heads (the_offers self.now.offers) (with_rows (without_witnesses self.now.basis.bank) (take witnesses (rows_in self.now.basis))) base true) place ≡ Some (the_hole_head result) }
+        requires within { place < length (later_heads (the_offers self.now.offers)
+            (with_rows (without_witnesses self.now.basis.bank) (take witnesses (rows_in self.now.basis))) base true) }
+        ensures { slice_get (later_heads (the_offers self.now.offers) (with_rows (without_witnesses self.now.basis.bank)
+            (take witnesses (rows_in self.now.basis))) base true) place ≡ Some (the_hole_head result) }
     {
         let takers = self.takers.terms_of(&Ty::Base(base));
         let count = takers.partition_point(
@@ -89,8 +91,14 @@ impl Tables {
         requires right { (q : Queue Planned Delays) × IsRightState self.now q }
         requires number { p < length (sketches_in self.now) }
         requires few { witnesses ≤ length (rows_in self.now.basis) }
-        requires within { place < length (heads_for (the_offers self.now.offers) (with_rows (without_witnesses self.now.basis.bank) (take witnesses (rows_in self.now.basis))) (first_hole [] (sketch_at (sketches_in self.now) p).partial)) }
-        ensures { IfOk result (λ h. slice_get (heads_for (the_offers self.now.offers) (with_rows (without_witnesses self.now.basis.bank) (take witnesses (rows_in self.now.basis))) (first_hole [] (sketch_at (sketches_in self.now) p).partial)) place ≡ Some (the_hole_head h)) }
+        requires within { place < length (heads_for (the_offers self.now.offers)
+            (with_rows (without_witnesses self.now.basis.bank) (take witnesses (rows_in self.now.basis)))
+            (first_hole [] (sketch_at (sketches_in self.now) p).partial)) }
+        ensures { IfOk result
+            (λ h. slice_get
+            (heads_for (the_offers self.now.offers) (with_rows (without_witnesses self.now.basis.bank)
+            (take witnesses (rows_in self.now.basis))) (first_hole [] (sketch_at (sketches_in self.now) p).partial)) place ≡ Some
+            (the_hole_head h)) }
     {
         let base = self.open_holes.base(p);
         let variables = self.open_holes.count_variables(p);

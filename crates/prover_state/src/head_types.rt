@@ -86,7 +86,8 @@ impl HeadTypes {
 
     /// The type of a head, where it is kept.
     pub(crate) fn type_of(&self, head: HoleHead) -> Option<&Ty>
-        ensures { IfSome result (λ ty. (scope : Scope) (ctx : List SimpleType) (a : SimpleType) → type_of scope ctx (the_hole_head head) ≡ Some a → the_type ty.now ≡ a) }
+        ensures { IfSome result (λ ty. (scope : Scope) (ctx : List SimpleType) (a : SimpleType)
+            → type_of scope ctx (the_hole_head head) ≡ Some a → the_type ty.now ≡ a) }
     {
         match head {
             HoleHead::False => Some(&self.formula),

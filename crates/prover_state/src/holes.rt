@@ -130,8 +130,11 @@ impl OpenHoles {
         head: HoleHead,
     ) -> Result<Ty, AllocError>
         requires number { p < length self.now }
-        requires typed { (holes : List Hole) → slice_get self.now p ≡ Some holes → IsSome (option_and_then (λ h. type_of (content_scope bank.now) h.context (the_hole_head head)) (leftmost holes)) }
-        ensures { IfOk result (λ ty. (holes : List Hole) → slice_get self.now p ≡ Some holes → Some (the_type ty) ≡ option_and_then (λ h. type_of (content_scope bank.now) h.context (the_hole_head head)) (leftmost holes)) }
+        requires typed { (holes : List Hole) → slice_get self.now p ≡ Some holes
+            → IsSome (option_and_then (λ h. type_of (content_scope bank.now) h.context (the_hole_head head)) (leftmost holes)) }
+        ensures { IfOk result (λ ty. (holes : List Hole) → slice_get self.now p ≡ Some holes
+            → Some (the_type ty) ≡ option_and_then (λ h. type_of (content_scope bank.now) h.context (the_hole_head head))
+            (leftmost holes)) }
     {
         if let Some(ty) = self.logical.type_of(head) {
             return Ok(ty.try_clone(alloc)?);
@@ -157,7 +160,8 @@ impl OpenHoles {
     /// Appends what the holes of a partial term become where the first one is filled with a head of the type.
     pub fn push_grown(&mut self, alloc: Global, p: usize, ty: &Ty) -> Result<(), AllocError>
         requires { p < length self.old }
-        ensures { OnOk result ((holes : List Hole) → slice_get self.old p ≡ Some holes → self.new ≡ self.old ++ after_head (the_type ty.now) holes ∷ []) }
+        ensures { OnOk result ((holes : List Hole) → slice_get self.old p ≡ Some holes
+            → self.new ≡ self.old ++ after_head (the_type ty.now) holes ∷ []) }
     {
         let k = self.lists[p] as usize;
         let contexts = &mut self.contexts;

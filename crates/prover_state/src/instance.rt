@@ -23,9 +23,16 @@ impl<W: Weigher<Waiting>> Core<W> {
         requires right { IsRightState self.old.tables self.old.plan }
         requires principals { Each (IsNumberIn self.old.tables.basis.lits) instance.principals }
         requires alternatives { Each (Each (IsNumberIn self.old.tables.basis.lits)) instance.alternatives }
-        ensures state { OnOk result (let d = the_literal self.old.tables.basis in state_in self.new ≡ with_instance self.old.plan.rule.mode (map d instance.principals) (map (map d) instance.alternatives) (state_in self.old)) }
+        ensures state { OnOk result (let d = the_literal self.old.tables.basis in state_in self.new ≡ with_instance self.old.plan.rule.mode
+            (map d instance.principals) (map (map d) instance.alternatives) (state_in self.old)) }
         ensures stays { OnOk result (StaysRight self.old self.new) }
-        ensures tables { OnOk result (self.new.tables ≡ record self.old.tables { seen = self.new.tables.seen; steps = self.new.tables.steps; solver = self.new.tables.solver }) }
+        ensures tables { OnOk result
+            (self.new.tables ≡ record self.old.tables {
+              seen = self.new.tables.seen;
+              steps = self.new.tables.steps;
+              solver
+                  = self.new.tables.solver;
+            }) }
         ensures steps { OnOk result (StepsGrow (λ i. i ≡ instance) self.old.tables.steps self.new.tables.steps) }
         ensures lasts { lasting self.new.tables ≡ lasting self.old.tables }
     {

@@ -23,7 +23,9 @@ impl Tables {
         requires basis { IsBasis self.old.basis }
         requires number { IsNumberIn self.old.basis.lits lit }
         requires places { (a : SimpleType) → Each (λ i. i < length self.old.noted.items) (ids_of a self.old.universals) }
-        ensures listed { OnOk result ((a : SimpleType) → ids_of a self.new.universals ≡ (if is_universal self.old.basis.bank.terms self.old.basis.lits a lit then ids_of a self.old.universals ++ length self.old.noted.items ∷ [] else ids_of a self.old.universals)) }
+        ensures listed { OnOk result ((a : SimpleType) → ids_of a self.new.universals
+            ≡ (if is_universal self.old.basis.bank.terms self.old.basis.lits a lit then ids_of a self.old.universals ++ length
+            self.old.noted.items ∷ [] else ids_of a self.old.universals)) }
         ensures tables { self.new ≡ record self.old { universals = self.new.universals } }
     {
         if !lit.positive {
@@ -45,7 +47,9 @@ impl Tables {
         requires basis { IsBasis self.old.basis }
         requires number { IsNumberIn self.old.basis.lits lit }
         requires index { IsRightIndex self.old.basis.bank.terms self.old.basis.lits self.old.index }
-        ensures noted { OnOk result (self.new.index.noted ≡ (if can_pair self.old.basis.bank.terms self.old.basis.lits lit then self.old.index.noted ++ lit ∷ [] else self.old.index.noted)) }
+        ensures noted { OnOk result
+            (self.new.index.noted ≡ (if can_pair self.old.basis.bank.terms self.old.basis.lits lit then self.old.index.noted ++ lit ∷ []
+            else self.old.index.noted)) }
         ensures index { OnOk result (IsRightIndex self.old.basis.bank.terms self.old.basis.lits self.new.index) }
         ensures tables { self.new ≡ record self.old { index = self.new.index } }
     {
@@ -63,9 +67,16 @@ impl<W: Weigher<Waiting>> Core<W> {
     pub fn note_literal(&mut self, lit: SatLit) -> Result<(), AllocError>
         requires right { IsRightState self.old.tables self.old.plan }
         requires number { IsNumberIn self.old.tables.basis.lits lit }
-        ensures state { OnOk result (let s = state_in self.old in state_in self.new ≡ record s { noted = s.noted ++ the_literal self.old.tables.basis lit ∷ [] }) }
+        ensures state { OnOk result (let s = state_in self.old in state_in self.new ≡ record s
+            { noted = s.noted ++ the_literal self.old.tables.basis lit ∷ [] }) }
         ensures right { OnOk result (IsRightState self.new.tables self.new.plan) }
-        ensures tables { OnOk result (self.new.tables ≡ record self.old.tables { noted = self.new.tables.noted; index = self.new.tables.index; universals = self.new.tables.universals }) }
+        ensures tables { OnOk result
+            (self.new.tables ≡ record self.old.tables {
+              noted = self.new.tables.noted;
+              index = self.new.tables.index;
+              universals
+                  = self.new.tables.universals;
+            }) }
         ensures plan { self.new.plan ≡ self.old.plan }
         ensures lasts { lasting self.new.tables ≡ lasting self.old.tables }
     {

@@ -34,7 +34,8 @@ fn list_name(names: &mut Enumerator, ty: &Ty, i: usize) -> Result<(), AllocError
 
 /// The numbers of the names that are offered, by their target types.
 fn names_by_target(alloc: Global, consts: &Consts, flags: &[bool]) -> Result<Enumerator, AllocError>
-    ensures { IfOk result (λ names. (n : ℕ) → ids_of (base n) names ≡ filter (is_offered flags.now) (places_to n 0 (map (λ c. c.type) consts.now))) }
+    ensures { IfOk result (λ names. (n : ℕ) → ids_of (base n) names ≡ filter (is_offered flags.now)
+        (places_to n 0 (map (λ c. c.type) consts.now))) }
 {
     let mut names = Enumerator::new(alloc);
     for i in 0..consts.len() {
@@ -72,7 +73,8 @@ impl Offered {
         sig: &Signature,
         offers: &Offers,
     ) -> Result<Self, AllocError>
-        ensures { IfOk result (λ offered. ListsOffers (the_offers offers.now) offered.names offered.bases.items (record { bases = length sig.now.bases; names = map (λ c. c.type) sig.now.consts; witnesses = [] })) }
+        ensures { IfOk result (λ offered. ListsOffers (the_offers offers.now) offered.names offered.bases.items
+            (record { bases = length sig.now.bases; names = map (λ c. c.type) sig.now.consts; witnesses = [] })) }
     {
         let bases = offered_bases(alloc, offers, sig.bases.len())?;
         let names = names_by_target(alloc, &sig.consts, offers.names.as_slice())?;

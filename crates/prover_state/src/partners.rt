@@ -26,7 +26,8 @@ impl<W: Weigher<Waiting>> Core<W> {
         requires right { IsRightState self.old.tables self.old.plan }
         requires number { IsNumberIn self.old.tables.basis.lits lit }
         requires spine { is_spine (the_atom self.old.tables.basis lit) ≡ true }
-        ensures state { OnOk result (let s = state_in self.old in state_in self.new ≡ with_commands self.old.plan.rule.mode (matings (the_literal self.old.tables.basis lit) s.noted) s) }
+        ensures state { OnOk result (let s = state_in self.old in state_in self.new ≡ with_commands self.old.plan.rule.mode
+            (matings (the_literal self.old.tables.basis lit) s.noted) s) }
         ensures stays { OnOk result (StaysRight self.old self.new) }
         ensures tables { self.new.tables ≡ self.old.tables }
     {
@@ -48,7 +49,8 @@ impl<W: Weigher<Waiting>> Core<W> {
         requires right { IsRightState self.old.tables self.old.plan }
         requires number { IsNumberIn self.old.tables.basis.lits lit }
         requires equation { IsBaseEquation (the_atom self.old.tables.basis lit) }
-        ensures state { OnOk result (let s = state_in self.old in let l = the_literal self.old.tables.basis lit in state_in self.new ≡ with_commands self.old.plan.rule.mode (confrontations (equation_type l.atom) l s.noted) s) }
+        ensures state { OnOk result (let s = state_in self.old in let l = the_literal self.old.tables.basis lit in state_in self.new
+            ≡ with_commands self.old.plan.rule.mode (confrontations (equation_type l.atom) l s.noted) s) }
         ensures stays { OnOk result (StaysRight self.old self.new) }
         ensures tables { self.new.tables ≡ self.old.tables }
     {
@@ -69,7 +71,8 @@ impl<W: Weigher<Waiting>> Core<W> {
         requires right { IsRightState self.old.tables self.old.plan }
         requires number { IsNumberIn self.old.tables.basis.lits lit }
         requires quantified { IsQuantifiedFormula (the_atom self.old.tables.basis lit) }
-        ensures state { OnOk result (let s = state_in self.old in let l = the_literal self.old.tables.basis lit in state_in self.new ≡ with_commands self.old.plan.rule.mode (map (inst l) (terms_of (range_of l.atom) s)) s) }
+        ensures state { OnOk result (let s = state_in self.old in let l = the_literal self.old.tables.basis lit in state_in self.new
+            ≡ with_commands self.old.plan.rule.mode (map (inst l) (terms_of (range_of l.atom) s)) s) }
         ensures stays { OnOk result (StaysRight self.old self.new) }
         ensures tables { self.new.tables ≡ self.old.tables }
     {

@@ -82,7 +82,8 @@ impl<W: Weigher<Waiting>> Core<W> {
         requires right { IsRightState self.old.tables self.old.plan }
         requires fits { IsLoop self.old.tables over piece.first }
         requires piece { IsPiece self.old.plan.rule.mode self.old.tables over piece.first piece end }
-        ensures state { OnOk result (state_in self.new ≡ with_commands self.old.plan.rule.mode (between piece.from end (numbered_loop self.old.tables over piece.first)) (state_in self.old)) }
+        ensures state { OnOk result (state_in self.new ≡ with_commands self.old.plan.rule.mode
+            (between piece.from end (numbered_loop self.old.tables over piece.first)) (state_in self.old)) }
         ensures stays { OnOk result (StaysRight self.old self.new) }
         ensures tables { self.new.tables ≡ self.old.tables }
     {
@@ -107,7 +108,9 @@ impl<W: Weigher<Waiting>> Core<W> {
         requires piece { IsPiece self.old.plan.rule.mode self.old.tables over first piece place }
         requires within { place < length (numbered_loop self.old.tables over first) }
         ensures piece { IfOk result (λ next. IsPiece self.old.plan.rule.mode self.old.tables over first next (place + 1)) }
-        ensures state { IfOk result (λ next. let mode = self.old.plan.rule.mode in let loop = numbered_loop self.old.tables over first in with_commands mode (drop next.from loop) (state_in self.new) ≡ with_commands mode (drop piece.from loop) (state_in self.old)) }
+        ensures state { IfOk result (λ next. let mode = self.old.plan.rule.mode in let loop = numbered_loop self.old.tables over first
+            in with_commands mode (drop next.from loop) (state_in self.new) ≡ with_commands mode (drop piece.from loop)
+            (state_in self.old)) }
         ensures stays { OnOk result (StaysRight self.old self.new) }
         ensures tables { self.new.tables ≡ self.old.tables }
     {
@@ -128,11 +131,15 @@ impl<W: Weigher<Waiting>> Core<W> {
     pub fn push_whole(&mut self, first: Command, over: Over, count: usize) -> Result<(), AllocError>
         requires right { IsRightState self.old.tables self.old.plan }
         requires numbers { IsNumberedCommand (naming_in self.old.tables) first }
-        requires begins { let c = command_at (naming_in self.old.tables) first in BeginsWith c (loop_over (without_witnesses self.old.tables.basis.bank) (sources self.old.tables) over c) }
-        requires count { count ≡ length (loop_over (without_witnesses self.old.tables.basis.bank) (sources self.old.tables) over (command_at (naming_in self.old.tables) first)) }
+        requires begins { let c = command_at (naming_in self.old.tables) first in BeginsWith c
+            (loop_over (without_witnesses self.old.tables.basis.bank) (sources self.old.tables) over c) }
+        requires count { count ≡ length (loop_over (without_witnesses self.old.tables.basis.bank) (sources self.old.tables) over
+            (command_at (naming_in self.old.tables) first)) }
         requires witnesses { HasWitnesses (sources self.old.tables) over }
         requires signed { IsSigned over (command_at (naming_in self.old.tables) first) }
-        ensures state { OnOk result (state_in self.new ≡ with_commands self.old.plan.rule.mode (loop_over (without_witnesses self.old.tables.basis.bank) (sources self.old.tables) over (command_at (naming_in self.old.tables) first)) (state_in self.old)) }
+        ensures state { OnOk result (state_in self.new ≡ with_commands self.old.plan.rule.mode
+            (loop_over (without_witnesses self.old.tables.basis.bank) (sources self.old.tables) over
+            (command_at (naming_in self.old.tables) first)) (state_in self.old)) }
         ensures stays { OnOk result (StaysRight self.old self.new) }
         ensures tables { self.new.tables ≡ self.old.tables }
     {

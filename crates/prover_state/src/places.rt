@@ -59,7 +59,8 @@ impl Tables {
         requires right { (q : Queue Planned Delays) × IsRightState self.now q }
         requires numbers { IsNumberedCommand (naming_in self.now) first }
         requires within { place < length (over_terms (sources self.now) (command_at (naming_in self.now) first)) }
-        ensures command { slice_get (over_terms (sources self.now) (command_at (naming_in self.now) first)) place ≡ Some (command_at (naming_in self.now) result) }
+        ensures command { slice_get (over_terms (sources self.now) (command_at (naming_in self.now) first)) place ≡ Some
+            (command_at (naming_in self.now) result) }
         ensures numbers { IsNumberedCommand (naming_in self.now) result }
     {
         match first {
@@ -76,7 +77,8 @@ impl Tables {
         requires right { (q : Queue Planned Delays) × IsRightState self.now q }
         requires numbers { IsNumberedCommand (naming_in self.now) first }
         requires within { place < length (over_universals (sources self.now) (command_at (naming_in self.now) first)) }
-        ensures command { slice_get (over_universals (sources self.now) (command_at (naming_in self.now) first)) place ≡ Some (command_at (naming_in self.now) result) }
+        ensures command { slice_get (over_universals (sources self.now) (command_at (naming_in self.now) first)) place ≡ Some
+            (command_at (naming_in self.now) result) }
         ensures numbers { IsNumberedCommand (naming_in self.now) result }
     {
         match first {
@@ -104,7 +106,8 @@ impl Tables {
         requires right { (q : Queue Planned Delays) × IsRightState self.now q }
         requires number { IsNumberIn self.now.basis.lits lit }
         requires within { place < length (partners_of self.now.basis.bank.terms self.now.basis.lits lit self.now.index.noted) }
-        ensures { IfOk result (λ m. slice_get (partners_of self.now.basis.bank.terms self.now.basis.lits lit self.now.index.noted) place ≡ Some m) }
+        ensures { IfOk result (λ m. slice_get (partners_of self.now.basis.bank.terms self.now.basis.lits lit self.now.index.noted) place
+            ≡ Some m) }
     {
         let partners = self.partners(lit)?;
         Ok(literal_of(partners, place))
@@ -116,7 +119,8 @@ impl Tables {
         requires numbers { IsNumberedCommand (naming_in self.now) first }
         requires signed { IsSigned Negatives (command_at (naming_in self.now) first) }
         requires within { place < length (over_negatives (sources self.now) (command_at (naming_in self.now) first)) }
-        ensures command { IfOk result (λ c. slice_get (over_negatives (sources self.now) (command_at (naming_in self.now) first)) place ≡ Some (command_at (naming_in self.now) c)) }
+        ensures command { IfOk result (λ c. slice_get (over_negatives (sources self.now) (command_at (naming_in self.now) first)) place
+            ≡ Some (command_at (naming_in self.now) c)) }
         ensures numbers { IfOk result (IsNumberedCommand (naming_in self.now)) }
     {
         match first {
@@ -132,7 +136,8 @@ impl Tables {
         requires numbers { IsNumberedCommand (naming_in self.now) first }
         requires signed { IsSigned Positives (command_at (naming_in self.now) first) }
         requires within { place < length (over_positives (sources self.now) (command_at (naming_in self.now) first)) }
-        ensures command { IfOk result (λ c. slice_get (over_positives (sources self.now) (command_at (naming_in self.now) first)) place ≡ Some (command_at (naming_in self.now) c)) }
+        ensures command { IfOk result (λ c. slice_get (over_positives (sources self.now) (command_at (naming_in self.now) first)) place
+            ≡ Some (command_at (naming_in self.now) c)) }
         ensures numbers { IfOk result (IsNumberedCommand (naming_in self.now)) }
     {
         match first {
@@ -152,8 +157,11 @@ impl Tables {
         requires right { (q : Queue Planned Delays) × IsRightState self.now q }
         requires numbers { IsNumberedCommand (naming_in self.now) first }
         requires witnesses { witnesses ≤ length (sources self.now).rows }
-        requires within { place < length (over_heads (without_witnesses self.now.basis.bank) (sources self.now) witnesses (command_at (naming_in self.now) first)) }
-        ensures command { IfOk result (λ c. slice_get (over_heads (without_witnesses self.now.basis.bank) (sources self.now) witnesses (command_at (naming_in self.now) first)) place ≡ Some (command_at (naming_in self.now) c)) }
+        requires within { place < length (over_heads (without_witnesses self.now.basis.bank) (sources self.now) witnesses
+            (command_at (naming_in self.now) first)) }
+        ensures command { IfOk result
+            (λ c. slice_get (over_heads (without_witnesses self.now.basis.bank) (sources self.now) witnesses
+            (command_at (naming_in self.now) first)) place ≡ Some (command_at (naming_in self.now) c)) }
         ensures numbers { IfOk result (IsNumberedCommand (naming_in self.now)) }
     {
         match first {
@@ -179,7 +187,8 @@ impl Tables {
         requires right { (q : Queue Planned Delays) × IsRightState self.now q }
         requires numbers { IsNumberedCommand (naming_in self.now) first }
         requires within { place < length (over_parked (sources self.now) (command_at (naming_in self.now) first)) }
-        ensures command { slice_get (over_parked (sources self.now) (command_at (naming_in self.now) first)) place ≡ Some (command_at (naming_in self.now) result) }
+        ensures command { slice_get (over_parked (sources self.now) (command_at (naming_in self.now) first)) place ≡ Some
+            (command_at (naming_in self.now) result) }
         ensures numbers { IsNumberedCommand (naming_in self.now) result }
     {
         match first {
@@ -199,8 +208,11 @@ impl Tables {
         requires numbers { IsNumberedCommand (naming_in self.now) first }
         requires witnesses { HasWitnesses (sources self.now) over }
         requires signed { IsSigned over (command_at (naming_in self.now) first) }
-        requires within { place < length (loop_over (without_witnesses self.now.basis.bank) (sources self.now) over (command_at (naming_in self.now) first)) }
-        ensures command { IfOk result (λ c. slice_get (loop_over (without_witnesses self.now.basis.bank) (sources self.now) over (command_at (naming_in self.now) first)) place ≡ Some (command_at (naming_in self.now) c)) }
+        requires within { place < length (loop_over (without_witnesses self.now.basis.bank) (sources self.now) over
+            (command_at (naming_in self.now) first)) }
+        ensures command { IfOk result
+            (λ c. slice_get (loop_over (without_witnesses self.now.basis.bank) (sources self.now) over
+            (command_at (naming_in self.now) first)) place ≡ Some (command_at (naming_in self.now) c)) }
         ensures numbers { IfOk result (IsNumberedCommand (naming_in self.now)) }
     {
         match over {

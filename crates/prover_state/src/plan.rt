@@ -48,7 +48,8 @@ impl<W: Weigher<Waiting>> Plan<W> {
     /// Pushes a command at a moment, with the later ones of its loop. Where the numbers of pushes end, there is no memory.
     pub fn push(&mut self, planned: Planned, now: u64) -> Result<(), AllocError>
         requires moment { now < 2 ^ 32 }
-        ensures ok { OnOk result (AddsEntry self.old self.new (suc (span planned)) (now + delay_by self.old.rule.mode planned.first) planned) }
+        ensures ok { OnOk result (AddsEntry self.old self.new (suc (span planned)) (now + delay_by self.old.rule.mode planned.first)
+            planned) }
         ensures err { OnErr result (self.new ≡ self.old) }
     {
         let numbers = one_more(planned.len(), self.agenda.pushes())?;

@@ -24,9 +24,14 @@ impl<W: Weigher<Waiting>> Core<W> {
     /// Pushes the commands of a loop, each of which waits so much longer than others of its kind.
     pub(crate) fn push_loop(&mut self, planned: Planned, extra: u32) -> Result<(), AllocError>
         requires right { IsRightState self.old.tables self.old.plan }
-        requires entry { IsEntry (without_witnesses self.old.tables.basis.bank) (naming_in self.old.tables) (sources self.old.tables) planned }
-        requires even { let first = command_at (naming_in self.old.tables) planned.first in Each (λ c. extra_delay self.old.plan.rule.mode c ≡ extra) (first ∷ later_of (without_witnesses self.old.tables.basis.bank) (sources self.old.tables) first planned.rest) }
-        ensures state { OnOk result (let first = command_at (naming_in self.old.tables) planned.first in state_in self.new ≡ with_commands self.old.plan.rule.mode (first ∷ later_of (without_witnesses self.old.tables.basis.bank) (sources self.old.tables) first planned.rest) (state_in self.old)) }
+        requires entry { IsEntry (without_witnesses self.old.tables.basis.bank) (naming_in self.old.tables) (sources self.old.tables)
+            planned }
+        requires even { let first = command_at (naming_in self.old.tables) planned.first in Each
+            (λ c. extra_delay self.old.plan.rule.mode c ≡ extra) (first ∷ later_of (without_witnesses self.old.tables.basis.bank)
+            (sources self.old.tables) first planned.rest) }
+        ensures state { OnOk result (let first = command_at (naming_in self.old.tables) planned.first in state_in self.new ≡ with_commands
+            self.old.plan.rule.mode (first ∷ later_of (without_witnesses self.old.tables.basis.bank) (sources self.old.tables) first
+            planned.rest) (state_in self.old)) }
         ensures stays { OnOk result (StaysRight self.old self.new) }
         ensures tables { self.new.tables ≡ self.old.tables }
     {
@@ -39,7 +44,8 @@ impl<W: Weigher<Waiting>> Core<W> {
     pub fn push_alone(&mut self, command: Command) -> Result<(), AllocError>
         requires right { IsRightState self.old.tables self.old.plan }
         requires numbers { IsNumberedCommand (naming_in self.old.tables) command }
-        ensures state { OnOk result (state_in self.new ≡ with_commands self.old.plan.rule.mode (command_at (naming_in self.old.tables) command ∷ []) (state_in self.old)) }
+        ensures state { OnOk result (state_in self.new ≡ with_commands self.old.plan.rule.mode
+            (command_at (naming_in self.old.tables) command ∷ []) (state_in self.old)) }
         ensures stays { OnOk result (StaysRight self.old self.new) }
         ensures tables { self.new.tables ≡ self.old.tables }
     {
@@ -56,7 +62,8 @@ impl<W: Weigher<Waiting>> Core<W> {
     pub fn see(&mut self, lit: SatLit) -> Result<(), AllocError>
         requires right { IsRightState self.old.tables self.old.plan }
         requires number { IsNumberIn self.old.tables.basis.lits lit }
-        ensures state { OnOk result (state_in self.new ≡ with_literal self.old.plan.rule.mode (the_literal self.old.tables.basis lit) (state_in self.old)) }
+        ensures state { OnOk result (state_in self.new ≡ with_literal self.old.plan.rule.mode (the_literal self.old.tables.basis lit)
+            (state_in self.old)) }
         ensures stays { OnOk result (StaysRight self.old self.new) }
         ensures tables { OnOk result (self.new.tables ≡ record self.old.tables { seen = self.new.tables.seen }) }
         ensures lasts { lasting self.new.tables ≡ lasting self.old.tables }
@@ -74,7 +81,8 @@ impl<W: Weigher<Waiting>> Core<W> {
     pub fn see_all(&mut self, lits: &[SatLit]) -> Result<(), AllocError>
         requires right { IsRightState self.old.tables self.old.plan }
         requires numbers { Each (IsNumberIn self.old.tables.basis.lits) lits.now }
-        ensures state { OnOk result (state_in self.new ≡ with_literals self.old.plan.rule.mode (map (the_literal self.old.tables.basis) lits.now) (state_in self.old)) }
+        ensures state { OnOk result (state_in self.new ≡ with_literals self.old.plan.rule.mode
+            (map (the_literal self.old.tables.basis) lits.now) (state_in self.old)) }
         ensures stays { OnOk result (StaysRight self.old self.new) }
         ensures tables { OnOk result (self.new.tables ≡ record self.old.tables { seen = self.new.tables.seen }) }
         ensures lasts { lasting self.new.tables ≡ lasting self.old.tables }

@@ -35,11 +35,13 @@ impl Basis {
         requires parts { EachPart (IsPlace self.old.bank.terms) (IsNumberIn self.old.lits) by.now }
         requires few { length self.old.witnesses < 2 ^ 32 - 1 }
         requires unwitnessed { denial_of by.now ≡ None }
-        requires fits { (alternatives : List (List Literal)) × IsInstanceBy self.old.bank self.old.lits (rows_in self.old) by.now alternatives }
+        requires fits { (alternatives : List (List Literal)) × IsInstanceBy self.old.bank self.old.lits (rows_in self.old) by.now
+            alternatives }
         ensures by { IfOk result (λ i. i.by ≡ by.now) }
         ensures principals { IfOk result (λ i. i.principals ≡ principals_of by.now) }
         ensures numbers { IfOk result (λ i. Each (Each (IsNumberIn self.new.lits)) i.alternatives) }
-        ensures instance { IfOk result (λ i. IsInstanceBy self.new.bank self.new.lits (rows_in self.new) by.now (map (map (the_literal self.new)) i.alternatives)) }
+        ensures instance { IfOk result (λ i. IsInstanceBy self.new.bank self.new.lits (rows_in self.new) by.now
+            (map (map (the_literal self.new)) i.alternatives)) }
         ensures good { OnOk result (IsBasis self.new) }
         ensures grows { OnOk result (BasisGrows self.old self.new) }
         ensures declared { declarations_of self.new ≡ declarations_of self.old }
@@ -71,13 +73,21 @@ impl<W: Weigher<Waiting>> Core<W> {
         requires small { EachPart (λ u. IsSmallTerm (term_at self.old.tables.basis.bank.terms u)) (λ l. Unit {0}) by }
         requires unwitnessed { denial_of by ≡ None }
         requires uncut { is_cut_use by ≡ false }
-        requires fits { (alternatives : List (List Literal)) × IsInstanceBy self.old.tables.basis.bank self.old.tables.basis.lits (rows_in self.old.tables.basis) by alternatives }
+        requires fits { (alternatives : List (List Literal)) × IsInstanceBy self.old.tables.basis.bank self.old.tables.basis.lits
+            (rows_in self.old.tables.basis) by alternatives }
         ensures state { OnOk result ((alternatives : List (List Literal)) → IsInstanceBy self.old.tables.basis.bank self.old.tables.basis.lits (rows_in self.old.tables.basis) by alternatives
             → state_in self.new ≡ with_instance self.old.plan.rule.mode (map (the_literal self.old.tables.basis) (principals_of by)) alternatives (state_in self.old)) }
         ensures stays { OnOk result (StaysRight self.old self.new) }
         ensures basis { OnOk result (BasisGrows self.old.tables.basis self.new.tables.basis) }
         ensures steps { OnOk result (StepsGrow (IsMadeInstance self.new.tables.basis) self.old.tables.steps self.new.tables.steps) }
-        ensures tables { OnOk result (self.new.tables ≡ record self.old.tables { basis = self.new.tables.basis; seen = self.new.tables.seen; steps = self.new.tables.steps; solver = self.new.tables.solver }) }
+        ensures tables { OnOk result
+            (self.new.tables ≡ record self.old.tables {
+              basis = self.new.tables.basis;
+              seen = self.new.tables.seen;
+              steps
+                  = self.new.tables.steps;
+              solver = self.new.tables.solver;
+            }) }
         ensures lasts { lasting self.new.tables ≡ lasting self.old.tables }
     {
         let instance = self.tables.basis.make_instance(self.tables.alloc, &by)?;

@@ -20,7 +20,8 @@ pub(crate) enum Selected {
 
 /// What a head does with a closed predicate.
 fn selected_by(head: &Head, f: Id) -> Selected
-    ensures { (terms : List Lambda) → f < length terms → is_closed (term_at terms f) ≡ true → IsSelectedIn terms (selection_by (the_head head.now) (term_at terms f)) result }
+    ensures { (terms : List Lambda) → f < length terms → is_closed (term_at terms f) ≡ true
+        → IsSelectedIn terms (selection_by (the_head head.now) (term_at terms f)) result }
 {
     match head {
         Head::Bound(_) => Selected::Nothing,

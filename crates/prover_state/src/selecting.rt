@@ -22,9 +22,11 @@ impl<W: Weigher<Waiting>> Core<W> {
     fn select_head(&mut self, id: Id) -> Result<(), AllocError>
         requires right { IsRightState self.old.tables self.old.plan }
         requires place { IsPlace self.old.tables.basis.bank.terms id }
-        ensures state { OnOk result (state_in self.new ≡ with_selections self.old.plan.rule.mode (head_selection (term_at self.old.tables.basis.bank.terms id)) (state_in self.old)) }
+        ensures state { OnOk result (state_in self.new ≡ with_selections self.old.plan.rule.mode
+            (head_selection (term_at self.old.tables.basis.bank.terms id)) (state_in self.old)) }
         ensures stays { OnOk result (StaysRight self.old self.new) }
-        ensures tables { OnOk result (self.new.tables ≡ record self.old.tables { chosen = self.new.tables.chosen; described = self.new.tables.described }) }
+        ensures tables { OnOk result
+            (self.new.tables ≡ record self.old.tables { chosen = self.new.tables.chosen; described = self.new.tables.described }) }
         ensures lasts { lasting self.new.tables ≡ lasting self.old.tables }
     {
         // The node is asked for its clause that the term is typed.
@@ -40,9 +42,16 @@ impl<W: Weigher<Waiting>> Core<W> {
     fn walk(&mut self, id: Id) -> Result<(), AllocError>
         requires right { IsRightState self.old.tables self.old.plan }
         requires place { IsPlace self.old.tables.basis.bank.terms id }
-        ensures state { OnOk result (state_in self.new ≡ with_selections self.old.plan.rule.mode (selections_in (term_at self.old.tables.basis.bank.terms id)) (state_in self.old)) }
+        ensures state { OnOk result (state_in self.new ≡ with_selections self.old.plan.rule.mode
+            (selections_in (term_at self.old.tables.basis.bank.terms id)) (state_in self.old)) }
         ensures stays { OnOk result (StaysRight self.old self.new) }
-        ensures tables { OnOk result (self.new.tables ≡ record self.old.tables { chosen = self.new.tables.chosen; described = self.new.tables.described; walked = self.new.tables.walked }) }
+        ensures tables { OnOk result
+            (self.new.tables ≡ record self.old.tables {
+              chosen = self.new.tables.chosen;
+              described = self.new.tables.described;
+              walked
+                  = self.new.tables.walked;
+            }) }
         ensures lasts { lasting self.new.tables ≡ lasting self.old.tables }
     {
         if self.tables.walked.contains(id) {
@@ -65,9 +74,16 @@ impl<W: Weigher<Waiting>> Core<W> {
     pub fn select(&mut self, lit: SatLit) -> Result<(), AllocError>
         requires right { IsRightState self.old.tables self.old.plan }
         requires number { IsNumberIn self.old.tables.basis.lits lit }
-        ensures state { OnOk result (state_in self.new ≡ with_selections self.old.plan.rule.mode (selections_in (the_atom self.old.tables.basis lit)) (state_in self.old)) }
+        ensures state { OnOk result (state_in self.new ≡ with_selections self.old.plan.rule.mode
+            (selections_in (the_atom self.old.tables.basis lit)) (state_in self.old)) }
         ensures stays { OnOk result (StaysRight self.old self.new) }
-        ensures tables { OnOk result (self.new.tables ≡ record self.old.tables { chosen = self.new.tables.chosen; described = self.new.tables.described; walked = self.new.tables.walked }) }
+        ensures tables { OnOk result
+            (self.new.tables ≡ record self.old.tables {
+              chosen = self.new.tables.chosen;
+              described = self.new.tables.described;
+              walked
+                  = self.new.tables.walked;
+            }) }
         ensures lasts { lasting self.new.tables ≡ lasting self.old.tables }
     {
         let atom = self.tables.basis.lits.formula_of(lit);

@@ -20,7 +20,8 @@ impl<W: Weigher<Waiting>> Core<W> {
     pub fn choose(&mut self, predicate: Id) -> Result<(), AllocError>
         requires right { IsRightState self.old.tables self.old.plan }
         requires place { IsPlace self.old.tables.basis.bank.terms predicate }
-        ensures state { OnOk result (let f = term_at self.old.tables.basis.bank.terms predicate in state_in self.new ≡ with_selection self.old.plan.rule.mode (by_choice (binder_of f) f) (state_in self.old)) }
+        ensures state { OnOk result (let f = term_at self.old.tables.basis.bank.terms predicate in state_in self.new ≡ with_selection
+            self.old.plan.rule.mode (by_choice (binder_of f) f) (state_in self.old)) }
         ensures stays { OnOk result (StaysRight self.old self.new) }
         ensures tables { OnOk result (self.new.tables ≡ record self.old.tables { chosen = self.new.tables.chosen }) }
         ensures lasts { lasting self.new.tables ≡ lasting self.old.tables }
@@ -37,7 +38,8 @@ impl<W: Weigher<Waiting>> Core<W> {
     pub fn describe(&mut self, predicate: Id) -> Result<(), AllocError>
         requires right { IsRightState self.old.tables self.old.plan }
         requires place { IsPlace self.old.tables.basis.bank.terms predicate }
-        ensures state { OnOk result (let f = term_at self.old.tables.basis.bank.terms predicate in state_in self.new ≡ with_selection self.old.plan.rule.mode (by_description (binder_of f) f) (state_in self.old)) }
+        ensures state { OnOk result (let f = term_at self.old.tables.basis.bank.terms predicate in state_in self.new ≡ with_selection
+            self.old.plan.rule.mode (by_description (binder_of f) f) (state_in self.old)) }
         ensures stays { OnOk result (StaysRight self.old self.new) }
         ensures tables { OnOk result (self.new.tables ≡ record self.old.tables { described = self.new.tables.described }) }
         ensures lasts { lasting self.new.tables ≡ lasting self.old.tables }

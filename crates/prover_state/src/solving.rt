@@ -24,11 +24,15 @@ impl<W: Weigher<Waiting>> Core<W> {
         ensures unsat { IfOk result (λ answer. answer ≡ Answer.Unsat → Unsatisfiable (state_in self.old).clauses) }
         ensures sat { IfOk result (λ answer. answer ≡ Answer.Sat → Unsatisfiable (state_in self.old).clauses → ⊥) }
         ensures ends { IfOk result (λ answer. answer ≡ Answer.Unsat → self.new.tables.solver.is_refuted ≡ true) }
-        ensures propagated { IfOk result (λ answer. answer ≡ Answer.Unsat → ReachesFalse (self.new.tables.solver.clauses ++ learned self.new.tables.solver) []) }
+        ensures propagated { IfOk result (λ answer. answer ≡ Answer.Unsat → ReachesFalse
+            (self.new.tables.solver.clauses ++ learned self.new.tables.solver) []) }
         ensures reported { IfOk result (λ answer. (spent : ℕ) → answer ≡ Answer.Spent spent → spent ≡ conflicts) }
-        ensures counted { IfOk result (λ answer. (spent : ℕ) → answer ≡ Answer.Spent spent → length (learned self.new.tables.solver) ≡ conflicts) }
-        ensures failing { IfOk result (λ answer. (spent : ℕ) → answer ≡ Answer.Spent spent → (decisions : List SatLit) × AreFailingDecisions (self.new.tables.solver.clauses ++ learned self.new.tables.solver) decisions) }
-        ensures enough { IfOk result (λ answer. (spent : ℕ) (variables : List Var) → AreAmong variables self.new.tables.solver.clauses → 3 ^ length variables ≤ conflicts → answer ≢ Answer.Spent spent) }
+        ensures counted { IfOk result (λ answer. (spent : ℕ) → answer ≡ Answer.Spent spent
+            → length (learned self.new.tables.solver) ≡ conflicts) }
+        ensures failing { IfOk result (λ answer. (spent : ℕ) → answer ≡ Answer.Spent spent → (decisions : List SatLit)
+            × AreFailingDecisions (self.new.tables.solver.clauses ++ learned self.new.tables.solver) decisions) }
+        ensures enough { IfOk result (λ answer. (spent : ℕ) (variables : List Var) → AreAmong variables self.new.tables.solver.clauses
+            → 3 ^ length variables ≤ conflicts → answer ≢ Answer.Spent spent) }
         ensures grows { SolverGrows self.old.tables.solver self.new.tables.solver }
         ensures right { IsRightState self.new.tables self.new.plan }
         ensures tables { self.new.tables ≡ record self.old.tables { solver = self.new.tables.solver } }

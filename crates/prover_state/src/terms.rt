@@ -23,7 +23,8 @@ impl<W: Weigher<Waiting>> Core<W> {
     pub fn add_term(&mut self, ty: &Ty, id: Id) -> Result<(), AllocError>
         requires right { IsRightState self.old.tables self.old.plan }
         requires place { IsPlace self.old.tables.basis.bank.terms id }
-        ensures state { OnOk result (state_in self.new ≡ with_term self.old.plan.rule.mode (the_type ty.now) (term_at self.old.tables.basis.bank.terms id) (state_in self.old)) }
+        ensures state { OnOk result (state_in self.new ≡ with_term self.old.plan.rule.mode (the_type ty.now)
+            (term_at self.old.tables.basis.bank.terms id) (state_in self.old)) }
         ensures stays { OnOk result (StaysRight self.old self.new) }
         ensures tables { OnOk result (self.new.tables ≡ record self.old.tables { terms = self.new.tables.terms }) }
         ensures lasts { lasting self.new.tables ≡ lasting self.old.tables }

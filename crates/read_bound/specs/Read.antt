@@ -75,5 +75,5 @@ RunsOfFilesStaySmall =
     → IsGathering texts name names (done ss)
     → problem_of ss ≡ Ok p
     → (mode : Mode) (n : ℕ) (s : State)
-        → state_after (record { scope = scope_of p.declared; mode = mode }) (start (unfolded_problem p)) n ≡ Some s
-        → StateHasSmallTerms s
+    → state_after (record { scope = scope_of p.declared; mode = mode }) (start (unfolded_problem p)) n ≡ Some s
+    → StateHasSmallTerms s

@@ -53,7 +53,8 @@ true_conjecture_input =
       atoms = (true_conjecture_a0 ∷ []);
       rows = [];
       clauses = (start_unit (yes 0) ∷ clause_by ((no 0) ∷ []) true_conjecture_i0 ∷ []);
-      log = (true_conjecture_e0 ∷ []) }
+      log = (true_conjecture_e0 ∷ []);
+    }
 
 abbrev pub true_conjecture_lines : List Line
 true_conjecture_lines = record { branch = (plus true_conjecture_a0 ∷ []); rule = (AtOne False 0); children = [] } ∷ []
@@ -90,7 +91,7 @@ all_p_a2 = app (example_name 0) (app (constant (choice individual_type)) (lam in
 abbrev pub all_p_a3 : Lambda
 all_p_a3 =
     app (app (constant (equality individual_type)) (app (constant (choice individual_type)) (lam individual_type (constant falsity))))
-        (example_name 1)
+    (example_name 1)
 
 abbrev pub all_p_a4 : Lambda
 all_p_a4 = every individual_type (lam individual_type (neg (constant falsity)))
@@ -103,7 +104,8 @@ all_p_i0 =
     record {
       rule = (AllPos 0 (app (constant (choice individual_type)) (lam individual_type (constant falsity))));
       principals = ((yes 0) ∷ []);
-      alternatives = (((yes 2) ∷ []) ∷ []) }
+      alternatives = (((yes 2) ∷ []) ∷ []);
+    }
 
 abbrev pub all_p_i1 : Instance
 all_p_i1 = record { rule = (AtTwo Mat 0 1); principals = ((yes 2) ∷ (no 1) ∷ []); alternatives = (((no 3) ∷ []) ∷ []) }
@@ -113,7 +115,8 @@ all_p_i2 =
     record {
       rule = (WithPredicate Cho (lam individual_type (constant falsity)));
       principals = [];
-      alternatives = (((yes 4) ∷ []) ∷ ((yes 5) ∷ []) ∷ []) }
+      alternatives = (((yes 4) ∷ []) ∷ ((yes 5) ∷ []) ∷ []);
+    }
 
 abbrev pub all_p_i3 : Instance
 all_p_i3 = record { rule = (AllPos 0 (example_name 1)); principals = ((yes 0) ∷ []); alternatives = (((yes 1) ∷ []) ∷ []) }
@@ -128,9 +131,10 @@ all_p_input =
       rows = [];
       clauses =
           (start_unit (yes 0) ∷ start_unit (no 1) ∷ clause_by ((no 0) ∷ (yes 2) ∷ []) all_p_i0
-              ∷ clause_by ((no 2) ∷ (yes 1) ∷ (no 3) ∷ []) all_p_i1 ∷ clause_by ((yes 4) ∷ (yes 5) ∷ []) all_p_i2
-              ∷ clause_by ((no 0) ∷ (yes 1) ∷ []) all_p_i3 ∷ []);
-      log = (all_p_e0 ∷ []) }
+          ∷ clause_by ((no 2) ∷ (yes 1) ∷ (no 3) ∷ []) all_p_i1 ∷ clause_by ((yes 4) ∷ (yes 5) ∷ []) all_p_i2
+          ∷ clause_by ((no 0) ∷ (yes 1) ∷ []) all_p_i3 ∷ []);
+      log = (all_p_e0 ∷ []);
+    }
 
 abbrev pub all_p_lines : List Line
 all_p_lines = record { branch = (plus all_p_a0 ∷ minus all_p_a1 ∷ []); rule = (AllPos 0 (example_name 1)); children = (Closed ∷ []) } ∷ []
@@ -159,13 +163,13 @@ eta_equal_refutation = record { witnesses = []; lines = eta_equal_lines }
 abbrev pub pointwise_a0 : Lambda
 pointwise_a0 =
     every individual_type
-        (lam individual_type
-                (app (app (constant (equality individual_type)) (app (example_name 0) (bound 0))) (app (example_name 1) (bound 0))))
+    (lam individual_type
+    (app (app (constant (equality individual_type)) (app (example_name 0) (bound 0))) (app (example_name 1) (bound 0))))
 
 abbrev pub pointwise_a1 : Lambda
 pointwise_a1 =
     app (app (constant (equality (arrow individual_type individual_type))) (lam individual_type (app (example_name 0) (bound 0))))
-        (lam individual_type (app (example_name 1) (bound 0)))
+    (lam individual_type (app (example_name 1) (bound 0)))
 
 abbrev pub pointwise_i0 : Instance
 pointwise_i0 = record { rule = (AtOne FunNeg 0); principals = ((no 1) ∷ []); alternatives = (((no 0) ∷ []) ∷ []) }
@@ -179,7 +183,8 @@ pointwise_input =
       atoms = (pointwise_a0 ∷ pointwise_a1 ∷ []);
       rows = [];
       clauses = (start_unit (yes 0) ∷ start_unit (no 1) ∷ clause_by ((yes 1) ∷ (no 0) ∷ []) pointwise_i0 ∷ []);
-      log = (pointwise_e0 ∷ []) }
+      log = (pointwise_e0 ∷ []);
+    }
 
 abbrev pub pointwise_lines : List Line
 pointwise_lines = record { branch = (minus pointwise_a1 ∷ plus pointwise_a0 ∷ []); rule = (AtOne FunNeg 0); children = (Closed ∷ []) } ∷ []
@@ -205,7 +210,8 @@ chosen_i1 =
     record {
       rule = (WithPredicate Cho (lam individual_type (app (example_name 0) (bound 0))));
       principals = [];
-      alternatives = (((yes 0) ∷ []) ∷ ((yes 1) ∷ []) ∷ []) }
+      alternatives = (((yes 0) ∷ []) ∷ ((yes 1) ∷ []) ∷ []);
+    }
 
 abbrev pub chosen_e0 : LogEntry
 chosen_e0 = record { chain = record { first = (Clause 3); steps = (on 1 (Clause 1) ∷ on 0 (Clause 0) ∷ []) }; result = [] }
@@ -217,15 +223,17 @@ chosen_input =
       rows = (record { type = individual_type; predicate = (lam individual_type (neg (app (example_name 0) (bound 0)))) } ∷ []);
       clauses =
           (start_unit (no 0) ∷ start_unit (no 1) ∷ clause_by ((yes 0) ∷ (yes 2) ∷ []) chosen_i0
-              ∷ clause_by ((yes 0) ∷ (yes 1) ∷ []) chosen_i1 ∷ []);
-      log = (chosen_e0 ∷ []) }
+          ∷ clause_by ((yes 0) ∷ (yes 1) ∷ []) chosen_i1 ∷ []);
+      log = (chosen_e0 ∷ []);
+    }
 
 abbrev pub chosen_lines : List Line
 chosen_lines =
     record {
       branch = (minus chosen_a0 ∷ minus chosen_a1 ∷ []);
       rule = (WithPredicate Cho (lam individual_type (app (example_name 0) (bound 0))));
-      children = (Closed ∷ Closed ∷ []) }
+      children = (Closed ∷ Closed ∷ []);
+    }
     ∷ []
 
 abbrev pub chosen_refutation : Refutation
@@ -270,7 +278,8 @@ unnamed_input =
       atoms = (unnamed_a0 ∷ unnamed_a1 ∷ []);
       rows = (record { type = individual_type; predicate = (lam individual_type (neg (constant falsity))) } ∷ []);
       clauses = (start_unit (no 0) ∷ clause_by ((yes 0) ∷ (yes 1) ∷ []) unnamed_i0 ∷ clause_by ((no 1) ∷ []) unnamed_i1 ∷ []);
-      log = (unnamed_e0 ∷ []) }
+      log = (unnamed_e0 ∷ []);
+    }
 
 abbrev pub unnamed_lines : List Line
 unnamed_lines =
@@ -282,7 +291,8 @@ abbrev pub unnamed_refutation : Refutation
 unnamed_refutation =
     record {
       witnesses = (record { type = individual_type; predicate = (lam individual_type (neg (constant falsity))) } ∷ []);
-      lines = unnamed_lines }
+      lines = unnamed_lines;
+    }
 
 -- `the.p`: p: $i > $o, with ? [X] : p X, that p holds of one value at most, and the conjecture p (@- [X] : p X)
 abbrev pub the_p_predicate : Lambda
@@ -294,11 +304,11 @@ the_p_a0 = every individual_type (lam individual_type (neg (app (example_name 0)
 abbrev pub the_p_a1 : Lambda
 the_p_a1 =
     every individual_type
-        (lam individual_type
-                (every individual_type
-                        (lam individual_type
-                                (imp (app (example_name 0) (bound 1))
-                                    (imp (app (example_name 0) (bound 0)) (eq individual_type (bound 1) (bound 0)))))))
+    (lam individual_type
+    (every individual_type
+    (lam individual_type
+    (imp (app (example_name 0) (bound 1))
+    (imp (app (example_name 0) (bound 0)) (eq individual_type (bound 1) (bound 0)))))))
 
 abbrev pub the_p_a2 : Lambda
 the_p_a2 = app (example_name 0) (app (constant (description individual_type)) the_p_predicate)
@@ -316,14 +326,16 @@ the_p_input =
       atoms = the_p_a0 ∷ the_p_a1 ∷ the_p_a2 ∷ [];
       rows = [];
       clauses = start_unit (no 0) ∷ start_unit (yes 1) ∷ start_unit (no 2) ∷ clause_by (yes 0 ∷ no 1 ∷ yes 2 ∷ []) the_p_i0 ∷ [];
-      log = the_p_e0 ∷ [] }
+      log = the_p_e0 ∷ [];
+    }
 
 abbrev pub the_p_lines : List Line
 the_p_lines =
     record {
       branch = minus the_p_a0 ∷ plus the_p_a1 ∷ minus the_p_a2 ∷ [];
       rule = WithPredicate Des the_p_predicate;
-      children = Closed ∷ Closed ∷ Closed ∷ [] }
+      children = Closed ∷ Closed ∷ Closed ∷ [];
+    }
     ∷ []
 
 abbrev pub the_p_refutation : Refutation
@@ -364,13 +376,15 @@ abbrev pub k_p_e0 : LogEntry
 k_p_e0 =
     record {
       chain = record { first = (Clause 5); steps = (on 5 (Clause 4) ∷ on 1 (Clause 1) ∷ on 0 (Clause 0) ∷ []) };
-      result = ((yes 4) ∷ []) }
+      result = ((yes 4) ∷ []);
+    }
 
 abbrev pub k_p_e1 : LogEntry
 k_p_e1 =
     record {
       chain = record { first = (Clause 7); steps = (on 5 (Clause 6) ∷ on 4 (Result 0) ∷ on 3 (Clause 3) ∷ on 2 (Clause 2) ∷ []) };
-      result = [] }
+      result = [];
+    }
 
 abbrev pub k_p_input : Input
 k_p_input =
@@ -379,28 +393,32 @@ k_p_input =
       rows = [];
       clauses =
           (start_unit (yes 0) ∷ start_unit (yes 1) ∷ start_unit (yes 2) ∷ start_unit (yes 3)
-              ∷ clause_by ((no 0) ∷ (yes 4) ∷ (yes 5) ∷ []) k_p_i0 ∷ clause_by ((no 1) ∷ (yes 4) ∷ (no 5) ∷ []) k_p_i1
-              ∷ clause_by ((no 2) ∷ (no 4) ∷ (yes 5) ∷ []) k_p_i2 ∷ clause_by ((no 3) ∷ (no 4) ∷ (no 5) ∷ []) k_p_i3 ∷ []);
-      log = (k_p_e0 ∷ k_p_e1 ∷ []) }
+          ∷ clause_by ((no 0) ∷ (yes 4) ∷ (yes 5) ∷ []) k_p_i0 ∷ clause_by ((no 1) ∷ (yes 4) ∷ (no 5) ∷ []) k_p_i1
+          ∷ clause_by ((no 2) ∷ (no 4) ∷ (yes 5) ∷ []) k_p_i2 ∷ clause_by ((no 3) ∷ (no 4) ∷ (no 5) ∷ []) k_p_i3 ∷ []);
+      log = (k_p_e0 ∷ k_p_e1 ∷ []);
+    }
 
 abbrev pub k_p_lines : List Line
 k_p_lines =
     record { branch = (plus k_p_a3 ∷ plus k_p_a4 ∷ plus k_p_a5 ∷ []); rule = (AtOne ImpPos 0); children = (Closed ∷ Closed ∷ []) }
     ∷ record { branch = (plus k_p_a2 ∷ plus k_p_a4 ∷ minus k_p_a5 ∷ []); rule = (AtOne ImpPos 0); children = (Closed ∷ Closed ∷ []) }
     ∷ record {
-          branch = (plus k_p_a3 ∷ plus k_p_a4 ∷ plus k_p_a2 ∷ []);
-          rule = (Cut (plus k_p_a5));
-          children = (child.Line 0 ∷ child.Line 1 ∷ []) }
+      branch = (plus k_p_a3 ∷ plus k_p_a4 ∷ plus k_p_a2 ∷ []);
+      rule = (Cut (plus k_p_a5));
+      children = (child.Line 0 ∷ child.Line 1 ∷ []);
+    }
     ∷ record { branch = (plus k_p_a1 ∷ minus k_p_a4 ∷ plus k_p_a5 ∷ []); rule = (AtOne ImpPos 0); children = (Closed ∷ Closed ∷ []) }
     ∷ record { branch = (plus k_p_a0 ∷ minus k_p_a4 ∷ minus k_p_a5 ∷ []); rule = (AtOne ImpPos 0); children = (Closed ∷ Closed ∷ []) }
     ∷ record {
-          branch = (plus k_p_a1 ∷ minus k_p_a4 ∷ plus k_p_a0 ∷ []);
-          rule = (Cut (plus k_p_a5));
-          children = (child.Line 3 ∷ child.Line 4 ∷ []) }
+      branch = (plus k_p_a1 ∷ minus k_p_a4 ∷ plus k_p_a0 ∷ []);
+      rule = (Cut (plus k_p_a5));
+      children = (child.Line 3 ∷ child.Line 4 ∷ []);
+    }
     ∷ record {
-          branch = (plus k_p_a3 ∷ plus k_p_a2 ∷ plus k_p_a1 ∷ plus k_p_a0 ∷ []);
-          rule = (Cut (plus k_p_a4));
-          children = (child.Line 2 ∷ child.Line 5 ∷ []) }
+      branch = (plus k_p_a3 ∷ plus k_p_a2 ∷ plus k_p_a1 ∷ plus k_p_a0 ∷ []);
+      rule = (Cut (plus k_p_a4));
+      children = (child.Line 2 ∷ child.Line 5 ∷ []);
+    }
     ∷ []
 
 abbrev pub k_p_refutation : Refutation
@@ -410,29 +428,29 @@ k_p_refutation = record { witnesses = []; lines = k_p_lines }
 abbrev pub demorgan_a0 : Lambda
 demorgan_a0 =
     every formula
-        (lam formula
-                (every formula
-                        (lam formula
-                                (app
-                                    (app (constant (equality formula))
-                                        (neg (neg (app (app (constant implication) (bound 1)) (neg (bound 0))))))
-                                        (app (app (constant implication) (neg (neg (bound 1)))) (neg (bound 0)))))))
+    (lam formula
+    (every formula
+    (lam formula
+    (app
+    (app (constant (equality formula))
+    (neg (neg (app (app (constant implication) (bound 1)) (neg (bound 0))))))
+    (app (app (constant implication) (neg (neg (bound 1)))) (neg (bound 0)))))))
 
 abbrev pub demorgan_a1 : Lambda
 demorgan_a1 =
     every formula
-        (lam formula
-                (app
-                    (app (constant (equality formula))
-                        (neg (neg (app (app (constant implication) (constant (witness 0))) (neg (bound 0))))))
-                        (app (app (constant implication) (neg (neg (constant (witness 0))))) (neg (bound 0)))))
+    (lam formula
+    (app
+    (app (constant (equality formula))
+    (neg (neg (app (app (constant implication) (constant (witness 0))) (neg (bound 0))))))
+    (app (app (constant implication) (neg (neg (constant (witness 0))))) (neg (bound 0)))))
 
 abbrev pub demorgan_a2 : Lambda
 demorgan_a2 =
     app
-        (app (constant (equality formula))
-                (neg (neg (app (app (constant implication) (constant (witness 0))) (neg (constant (witness 1)))))))
-        (app (app (constant implication) (neg (neg (constant (witness 0))))) (neg (constant (witness 1))))
+    (app (constant (equality formula))
+    (neg (neg (app (app (constant implication) (constant (witness 0))) (neg (constant (witness 1)))))))
+    (app (app (constant implication) (neg (neg (constant (witness 0))))) (neg (constant (witness 1))))
 
 abbrev pub demorgan_a3 : Lambda
 demorgan_a3 = app (app (constant implication) (constant (witness 0))) (neg (constant (witness 1)))
@@ -473,16 +491,20 @@ demorgan_e0 =
     record {
       chain = record {
         first = (Clause 4);
-        steps = (on 3 (Clause 8) ∷ on 4 (Clause 6) ∷ on 2 (Clause 2) ∷ on 1 (Clause 1) ∷ on 0 (Clause 0) ∷ []) };
-      result = ((yes 5) ∷ []) }
+        steps = (on 3 (Clause 8) ∷ on 4 (Clause 6) ∷ on 2 (Clause 2) ∷ on 1 (Clause 1) ∷ on 0 (Clause 0) ∷ []);
+      };
+      result = ((yes 5) ∷ []);
+    }
 
 abbrev pub demorgan_e1 : LogEntry
 demorgan_e1 =
     record {
       chain = record {
         first = (Clause 10);
-        steps = (on 6 (Clause 9) ∷ on 4 (Clause 3) ∷ on 5 (Result 0) ∷ on 2 (Clause 2) ∷ on 1 (Clause 1) ∷ on 0 (Clause 0) ∷ []) };
-      result = ((yes 3) ∷ []) }
+        steps = (on 6 (Clause 9) ∷ on 4 (Clause 3) ∷ on 5 (Result 0) ∷ on 2 (Clause 2) ∷ on 1 (Clause 1) ∷ on 0 (Clause 0) ∷ []);
+      };
+      result = ((yes 3) ∷ []);
+    }
 
 abbrev pub demorgan_e2 : LogEntry
 demorgan_e2 =
@@ -491,8 +513,10 @@ demorgan_e2 =
         first = (Clause 7);
         steps =
             (on 6 (Clause 5) ∷ on 4 (Clause 4) ∷ on 3 (Result 1) ∷ on 5 (Result 0) ∷ on 2 (Clause 2) ∷ on 1 (Clause 1) ∷ on 0 (Clause 0)
-                ∷ []) };
-      result = [] }
+            ∷ []);
+      };
+      result = [];
+    }
 
 abbrev pub demorgan_input : Input
 demorgan_input =
@@ -500,112 +524,133 @@ demorgan_input =
       atoms = (demorgan_a0 ∷ demorgan_a1 ∷ demorgan_a2 ∷ demorgan_a3 ∷ demorgan_a4 ∷ demorgan_a5 ∷ demorgan_a6 ∷ []);
       rows =
           (record {
-                type = formula;
-                predicate =
-                    (lam formula
-                            (every formula
-                                    (lam formula
-                                            (app
-                                                    (app (constant (equality formula))
-                                                            (neg (neg (app (app (constant implication) (bound 1)) (neg (bound 0))))))
-                                                    (app (app (constant implication) (neg (neg (bound 1)))) (neg (bound 0))))))) }
-              ∷ record {
-                    type = formula;
-                    predicate =
-                        (lam formula
-                                (app
-                                        (app (constant (equality formula))
-                                                (neg (neg (app (app (constant implication) (constant (witness 0))) (neg (bound 0))))))
-                                        (app (app (constant implication) (neg (neg (constant (witness 0))))) (neg (bound 0))))) }
-              ∷ []);
+            type = formula;
+            predicate =
+                (lam formula
+                (every formula
+                (lam formula
+                (app
+                (app (constant (equality formula))
+                (neg (neg (app (app (constant implication) (bound 1)) (neg (bound 0))))))
+                (app (app (constant implication) (neg (neg (bound 1)))) (neg (bound 0)))))));
+          }
+          ∷ record {
+            type = formula;
+            predicate =
+                (lam formula
+                (app
+                (app (constant (equality formula))
+                (neg (neg (app (app (constant implication) (constant (witness 0))) (neg (bound 0))))))
+                (app (app (constant implication) (neg (neg (constant (witness 0))))) (neg (bound 0)))));
+          }
+          ∷ []);
       clauses =
           (start_unit (no 0) ∷ clause_by ((yes 0) ∷ (no 1) ∷ []) demorgan_i0 ∷ clause_by ((yes 1) ∷ (no 2) ∷ []) demorgan_i1
-              ∷ clause_by ((yes 2) ∷ (yes 3) ∷ (yes 4) ∷ []) demorgan_i2 ∷ clause_by ((yes 2) ∷ (no 4) ∷ (no 3) ∷ []) demorgan_i2
-              ∷ clause_by ((no 3) ∷ (no 5) ∷ (no 6) ∷ []) demorgan_i3 ∷ clause_by ((yes 4) ∷ (yes 5) ∷ []) demorgan_i4
-              ∷ clause_by ((yes 4) ∷ (yes 6) ∷ []) demorgan_i4 ∷ clause_by ((yes 3) ∷ (yes 5) ∷ []) demorgan_i5
-              ∷ clause_by ((yes 3) ∷ (yes 6) ∷ []) demorgan_i5 ∷ clause_by ((no 4) ∷ (no 5) ∷ (no 6) ∷ []) demorgan_i6 ∷ []);
-      log = (demorgan_e0 ∷ demorgan_e1 ∷ demorgan_e2 ∷ []) }
+          ∷ clause_by ((yes 2) ∷ (yes 3) ∷ (yes 4) ∷ []) demorgan_i2 ∷ clause_by ((yes 2) ∷ (no 4) ∷ (no 3) ∷ []) demorgan_i2
+          ∷ clause_by ((no 3) ∷ (no 5) ∷ (no 6) ∷ []) demorgan_i3 ∷ clause_by ((yes 4) ∷ (yes 5) ∷ []) demorgan_i4
+          ∷ clause_by ((yes 4) ∷ (yes 6) ∷ []) demorgan_i4 ∷ clause_by ((yes 3) ∷ (yes 5) ∷ []) demorgan_i5
+          ∷ clause_by ((yes 3) ∷ (yes 6) ∷ []) demorgan_i5 ∷ clause_by ((no 4) ∷ (no 5) ∷ (no 6) ∷ []) demorgan_i6 ∷ []);
+      log = (demorgan_e0 ∷ demorgan_e1 ∷ demorgan_e2 ∷ []);
+    }
 
 abbrev pub demorgan_lines : List Line
 demorgan_lines =
     record { branch = (minus demorgan_a0 ∷ plus demorgan_a1 ∷ []); rule = (AtOne AllNeg 0); children = (Closed ∷ []) }
     ∷ record { branch = (minus demorgan_a1 ∷ plus demorgan_a2 ∷ []); rule = (AtOne AllNeg 0); children = (Closed ∷ []) }
     ∷ record {
-          branch = (minus demorgan_a2 ∷ plus demorgan_a4 ∷ plus demorgan_a3 ∷ []);
-          rule = (AtOne BoolNeg 0);
-          children = (Closed ∷ Closed ∷ []) }
+      branch = (minus demorgan_a2 ∷ plus demorgan_a4 ∷ plus demorgan_a3 ∷ []);
+      rule = (AtOne BoolNeg 0);
+      children = (Closed ∷ Closed ∷ []);
+    }
     ∷ record {
-          branch = (plus demorgan_a3 ∷ plus demorgan_a5 ∷ plus demorgan_a6 ∷ []);
-          rule = (AtOne ImpPos 0);
-          children = (Closed ∷ Closed ∷ []) }
+      branch = (plus demorgan_a3 ∷ plus demorgan_a5 ∷ plus demorgan_a6 ∷ []);
+      rule = (AtOne ImpPos 0);
+      children = (Closed ∷ Closed ∷ []);
+    }
     ∷ record { branch = (minus demorgan_a4 ∷ minus demorgan_a6 ∷ []); rule = (AtOne ImpNeg 0); children = (Closed ∷ []) }
     ∷ record {
-          branch = (plus demorgan_a3 ∷ plus demorgan_a5 ∷ minus demorgan_a4 ∷ []);
-          rule = (Cut (plus demorgan_a6));
-          children = (child.Line 3 ∷ child.Line 4 ∷ []) }
+      branch = (plus demorgan_a3 ∷ plus demorgan_a5 ∷ minus demorgan_a4 ∷ []);
+      rule = (Cut (plus demorgan_a6));
+      children = (child.Line 3 ∷ child.Line 4 ∷ []);
+    }
     ∷ record {
-          branch = (minus demorgan_a2 ∷ plus demorgan_a3 ∷ plus demorgan_a5 ∷ []);
-          rule = (Cut (plus demorgan_a4));
-          children = (child.Line 2 ∷ child.Line 5 ∷ []) }
+      branch = (minus demorgan_a2 ∷ plus demorgan_a3 ∷ plus demorgan_a5 ∷ []);
+      rule = (Cut (plus demorgan_a4));
+      children = (child.Line 2 ∷ child.Line 5 ∷ []);
+    }
     ∷ record {
-          branch = (plus demorgan_a4 ∷ plus demorgan_a5 ∷ plus demorgan_a6 ∷ []);
-          rule = (AtOne ImpPos 0);
-          children = (Closed ∷ Closed ∷ []) }
+      branch = (plus demorgan_a4 ∷ plus demorgan_a5 ∷ plus demorgan_a6 ∷ []);
+      rule = (AtOne ImpPos 0);
+      children = (Closed ∷ Closed ∷ []);
+    }
     ∷ record { branch = (minus demorgan_a3 ∷ minus demorgan_a6 ∷ []); rule = (AtOne ImpNeg 0); children = (Closed ∷ []) }
     ∷ record {
-          branch = (plus demorgan_a4 ∷ plus demorgan_a5 ∷ minus demorgan_a3 ∷ []);
-          rule = (Cut (plus demorgan_a6));
-          children = (child.Line 7 ∷ child.Line 8 ∷ []) }
+      branch = (plus demorgan_a4 ∷ plus demorgan_a5 ∷ minus demorgan_a3 ∷ []);
+      rule = (Cut (plus demorgan_a6));
+      children = (child.Line 7 ∷ child.Line 8 ∷ []);
+    }
     ∷ record {
-          branch = (minus demorgan_a2 ∷ minus demorgan_a3 ∷ minus demorgan_a4 ∷ []);
-          rule = (AtOne BoolNeg 0);
-          children = (Closed ∷ Closed ∷ []) }
+      branch = (minus demorgan_a2 ∷ minus demorgan_a3 ∷ minus demorgan_a4 ∷ []);
+      rule = (AtOne BoolNeg 0);
+      children = (Closed ∷ Closed ∷ []);
+    }
     ∷ record {
-          branch = (plus demorgan_a5 ∷ minus demorgan_a3 ∷ minus demorgan_a2 ∷ []);
-          rule = (Cut (plus demorgan_a4));
-          children = (child.Line 9 ∷ child.Line 10 ∷ []) }
+      branch = (plus demorgan_a5 ∷ minus demorgan_a3 ∷ minus demorgan_a2 ∷ []);
+      rule = (Cut (plus demorgan_a4));
+      children = (child.Line 9 ∷ child.Line 10 ∷ []);
+    }
     ∷ record { branch = (minus demorgan_a3 ∷ minus demorgan_a5 ∷ []); rule = (AtOne ImpNeg 0); children = (Closed ∷ []) }
     ∷ record {
-          branch = (minus demorgan_a2 ∷ plus demorgan_a4 ∷ minus demorgan_a5 ∷ []);
-          rule = (Cut (plus demorgan_a3));
-          children = (child.Line 2 ∷ child.Line 12 ∷ []) }
+      branch = (minus demorgan_a2 ∷ plus demorgan_a4 ∷ minus demorgan_a5 ∷ []);
+      rule = (Cut (plus demorgan_a3));
+      children = (child.Line 2 ∷ child.Line 12 ∷ []);
+    }
     ∷ record { branch = (minus demorgan_a4 ∷ minus demorgan_a5 ∷ []); rule = (AtOne ImpNeg 0); children = (Closed ∷ []) }
     ∷ record {
-          branch = (minus demorgan_a2 ∷ minus demorgan_a5 ∷ []);
-          rule = (Cut (plus demorgan_a4));
-          children = (child.Line 13 ∷ child.Line 14 ∷ []) }
+      branch = (minus demorgan_a2 ∷ minus demorgan_a5 ∷ []);
+      rule = (Cut (plus demorgan_a4));
+      children = (child.Line 13 ∷ child.Line 14 ∷ []);
+    }
     ∷ record {
-          branch = (minus demorgan_a1 ∷ minus demorgan_a5 ∷ []);
-          rule = (Cut (plus demorgan_a2));
-          children = (child.Line 1 ∷ child.Line 15 ∷ []) }
+      branch = (minus demorgan_a1 ∷ minus demorgan_a5 ∷ []);
+      rule = (Cut (plus demorgan_a2));
+      children = (child.Line 1 ∷ child.Line 15 ∷ []);
+    }
     ∷ record {
-          branch = (minus demorgan_a0 ∷ minus demorgan_a5 ∷ []);
-          rule = (Cut (plus demorgan_a1));
-          children = (child.Line 0 ∷ child.Line 16 ∷ []) }
+      branch = (minus demorgan_a0 ∷ minus demorgan_a5 ∷ []);
+      rule = (Cut (plus demorgan_a1));
+      children = (child.Line 0 ∷ child.Line 16 ∷ []);
+    }
     ∷ record {
-          branch = (minus demorgan_a3 ∷ minus demorgan_a2 ∷ minus demorgan_a0 ∷ []);
-          rule = (Cut (plus demorgan_a5));
-          children = (child.Line 11 ∷ child.Line 17 ∷ []) }
+      branch = (minus demorgan_a3 ∷ minus demorgan_a2 ∷ minus demorgan_a0 ∷ []);
+      rule = (Cut (plus demorgan_a5));
+      children = (child.Line 11 ∷ child.Line 17 ∷ []);
+    }
     ∷ record {
-          branch = (minus demorgan_a1 ∷ minus demorgan_a3 ∷ minus demorgan_a0 ∷ []);
-          rule = (Cut (plus demorgan_a2));
-          children = (child.Line 1 ∷ child.Line 18 ∷ []) }
+      branch = (minus demorgan_a1 ∷ minus demorgan_a3 ∷ minus demorgan_a0 ∷ []);
+      rule = (Cut (plus demorgan_a2));
+      children = (child.Line 1 ∷ child.Line 18 ∷ []);
+    }
     ∷ record {
-          branch = (minus demorgan_a0 ∷ minus demorgan_a3 ∷ []);
-          rule = (Cut (plus demorgan_a1));
-          children = (child.Line 0 ∷ child.Line 19 ∷ []) }
+      branch = (minus demorgan_a0 ∷ minus demorgan_a3 ∷ []);
+      rule = (Cut (plus demorgan_a1));
+      children = (child.Line 0 ∷ child.Line 19 ∷ []);
+    }
     ∷ record {
-          branch = (minus demorgan_a2 ∷ plus demorgan_a5 ∷ minus demorgan_a0 ∷ []);
-          rule = (Cut (plus demorgan_a3));
-          children = (child.Line 6 ∷ child.Line 20 ∷ []) }
+      branch = (minus demorgan_a2 ∷ plus demorgan_a5 ∷ minus demorgan_a0 ∷ []);
+      rule = (Cut (plus demorgan_a3));
+      children = (child.Line 6 ∷ child.Line 20 ∷ []);
+    }
     ∷ record {
-          branch = (minus demorgan_a2 ∷ minus demorgan_a0 ∷ []);
-          rule = (Cut (plus demorgan_a5));
-          children = (child.Line 21 ∷ child.Line 17 ∷ []) }
+      branch = (minus demorgan_a2 ∷ minus demorgan_a0 ∷ []);
+      rule = (Cut (plus demorgan_a5));
+      children = (child.Line 21 ∷ child.Line 17 ∷ []);
+    }
     ∷ record {
-          branch = (minus demorgan_a1 ∷ minus demorgan_a0 ∷ []);
-          rule = (Cut (plus demorgan_a2));
-          children = (child.Line 1 ∷ child.Line 22 ∷ []) }
+      branch = (minus demorgan_a1 ∷ minus demorgan_a0 ∷ []);
+      rule = (Cut (plus demorgan_a2));
+      children = (child.Line 1 ∷ child.Line 22 ∷ []);
+    }
     ∷ record { branch = (minus demorgan_a0 ∷ []); rule = (Cut (plus demorgan_a1)); children = (child.Line 0 ∷ child.Line 23 ∷ []) } ∷ []
 
 abbrev pub demorgan_refutation : Refutation
@@ -613,25 +658,28 @@ demorgan_refutation =
     record {
       witnesses =
           (record {
-                type = formula;
-                predicate =
-                    (lam formula
-                            (every formula
-                                    (lam formula
-                                            (app
-                                                    (app (constant (equality formula))
-                                                            (neg (neg (app (app (constant implication) (bound 1)) (neg (bound 0))))))
-                                                    (app (app (constant implication) (neg (neg (bound 1)))) (neg (bound 0))))))) }
-              ∷ record {
-                    type = formula;
-                    predicate =
-                        (lam formula
-                                (app
-                                        (app (constant (equality formula))
-                                                (neg (neg (app (app (constant implication) (constant (witness 0))) (neg (bound 0))))))
-                                        (app (app (constant implication) (neg (neg (constant (witness 0))))) (neg (bound 0))))) }
-              ∷ []);
-      lines = demorgan_lines }
+            type = formula;
+            predicate =
+                (lam formula
+                (every formula
+                (lam formula
+                (app
+                (app (constant (equality formula))
+                (neg (neg (app (app (constant implication) (bound 1)) (neg (bound 0))))))
+                (app (app (constant implication) (neg (neg (bound 1)))) (neg (bound 0)))))));
+          }
+          ∷ record {
+            type = formula;
+            predicate =
+                (lam formula
+                (app
+                (app (constant (equality formula))
+                (neg (neg (app (app (constant implication) (constant (witness 0))) (neg (bound 0))))))
+                (app (app (constant implication) (neg (neg (constant (witness 0))))) (neg (bound 0)))));
+          }
+          ∷ []);
+      lines = demorgan_lines;
+    }
 
 -- the worked examples are rebuilt as they are to
 abbrev pub ExamplesAreRebuilt : Type 0

@@ -30,7 +30,8 @@ line_of atoms lines (cut p v t u) =
     record {
       branch = literals_of atoms (branch (cut p v t u));
       rule = Cut (literal_at atoms (positive v));
-      children = child.Line (line_number_in lines t) ∷ child.Line (line_number_in lines u) ∷ [] }
+      children = child.Line (line_number_in lines t) ∷ child.Line (line_number_in lines u) ∷ [];
+    }
 
 -- the lines of the walk from the last line
 abbrev pub lines_from : List Lambda → Tree → List Line

@@ -31,7 +31,7 @@ pub record IsAcceptedFor (p : PlainProblem) (t : RefutationTree) : Type 0 where
   pub definitions : NamesDefinitions p t.names
   pub refutation :
       IsAccepted (scope_of p.declared) (start (refuted_problem p t.names))
-          (numbered_refutation (names_of p.declared.bases p.declared.consts) t)
+      (numbered_refutation (names_of p.declared.bases p.declared.consts) t)
 
 -- The place is the first at which two lists differ: the names there are others, or only one list has a name there.
 pub record DifferFirst (names taken : List (List ℕ)) (place : ℕ) : Type 0 where
@@ -51,5 +51,5 @@ pub data TextFailsAt (p : PlainProblem) (t : RefutationTree) (first : ℕ) : ℕ
       (line : ℕ) (why : Why)
       → NamesDefinitions p t.names
       → FailsAt (scope_of p.declared) (start (refuted_problem p t.names))
-              (numbered_refutation (names_of p.declared.bases p.declared.consts) t) first line why
+      (numbered_refutation (names_of p.declared.bases p.declared.consts) t) first line why
       → TextFailsAt p t first line why

@@ -76,5 +76,5 @@ pub data TextFailsStrictlyAt (p : PlainProblem) (t : RefutationTree) (first : �
       (line : ℕ) (why : Why)
       → NamesDefinitions p t.names
       → FailsStrictlyAt (scope_of p.declared) (start (refuted_problem p t.names))
-              (numbered_refutation (names_of p.declared.bases p.declared.consts) t) first line why
+      (numbered_refutation (names_of p.declared.bases p.declared.consts) t) first line why
       → TextFailsStrictlyAt p t first line why

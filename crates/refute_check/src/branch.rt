@@ -68,7 +68,8 @@ impl Branch {
 
     /// Adds the literal of this sign whose atom has this number.
     pub(crate) fn insert(&mut self, positive: bool, number: usize) -> Result<(), AllocError>
-        ensures { OnOk result ((sign : Bool) (k : ℕ) → branch_has self.new sign k ≡ (branch_has self.old sign k || (same_sign positive sign && number == k))) }
+        ensures { OnOk result ((sign : Bool) (k : ℕ) → branch_has self.new sign k
+            ≡ (branch_has self.old sign k || (same_sign positive sign && number == k))) }
     {
         if positive {
             self.positive.insert(number)?;
@@ -91,7 +92,8 @@ impl Branch {
 
     /// Whether a literal's negation is in the other branch. It takes the time of this one's literals.
     pub(crate) fn clashes(&self, other: &Branch) -> bool
-        ensures { IsTrue result ↔ ((k : ℕ) × (sign : Bool) × IsTrue (branch_has self.now sign k) × IsTrue (branch_has other.now (not sign) k)) }
+        ensures { IsTrue result ↔ ((k : ℕ) × (sign : Bool) × IsTrue (branch_has self.now sign k)
+            × IsTrue (branch_has other.now (not sign) k)) }
     {
         meet(&self.positive, &other.negative) || meet(&self.negative, &other.positive)
     }
@@ -100,7 +102,8 @@ impl Branch {
 impl LineBranch {
     /// Whether each literal is in one of the two branches.
     pub(crate) fn is_within(&self, left: &Branch, right: &Branch) -> bool
-        ensures { IsTrue result ↔ ((sign : Bool) (k : ℕ) → IsTrue (line_has self.now sign k) → IsTrue (branch_has left.now sign k || branch_has right.now sign k)) }
+        ensures { IsTrue result ↔ ((sign : Bool) (k : ℕ) → IsTrue (line_has self.now sign k)
+            → IsTrue (branch_has left.now sign k || branch_has right.now sign k)) }
     {
         is_among(&self.positive, &left.positive, &right.positive)
             && is_among(&self.negative, &left.negative, &right.negative)

@@ -51,8 +51,10 @@ fn check_rows(
     ensures atoms { OnOk result (Grow (shared_atoms shared.old) (shared_atoms shared.new)) }
     ensures declared { OnOk result (declared_in shared.new ≡ declared_in shared.old) }
     ensures good { OnOk result (IsGoodShared shared.new) }
-    ensures row { IfErr result (λ e. IfRefused e (λ place why. place < length (numbered_refutation numbering.now (the_text text.now)).witnesses)) }
-    ensures refused { IfErr result (λ e. IfRefused e (λ place why. (start : List Literal) → FirstFailure (declared_in shared.old) start (numbered_refutation numbering.now (the_text text.now)) place why)) }
+    ensures row { IfErr result
+        (λ e. IfRefused e (λ place why. place < length (numbered_refutation numbering.now (the_text text.now)).witnesses)) }
+    ensures refused { IfErr result (λ e. IfRefused e (λ place why. (start : List Literal)
+        → FirstFailure (declared_in shared.old) start (numbered_refutation numbering.now (the_text text.now)) place why)) }
 {
     for i in 0..text.witnesses.len() {
         if let Some(why) = shared.add_row(alloc, numbering, text.witnesses.at(i))? {
@@ -76,9 +78,11 @@ fn check_lines(
     requires room { length text.now.witnesses + length text.now.lines < 2 ^ 64 }
     ensures right { OnOk result (AreRightIn (declared_in shared.old) (numbered_refutation numbering.now (the_text text.now))) }
     ensures no_cut { OnOk result (strict ≡ true → HasNoCut (numbered_refutation numbering.now (the_text text.now)).lines) }
-    ensures branches { IfOk result (λ ls. AreBranches (shared_atoms shared.new) (numbered_refutation numbering.now (the_text text.now)).lines ls.branches.items) }
+    ensures branches { IfOk result
+        (λ ls. AreBranches (shared_atoms shared.new) (numbered_refutation numbering.now (the_text text.now)).lines ls.branches.items) }
     ensures atoms { OnOk result (Grow (shared_atoms shared.old) (shared_atoms shared.new)) }
-    ensures refused { IfErr result (λ e. IfRefused e (λ place why. (start : List Literal) → FirstFailureBy strict (declared_in shared.old) start (numbered_refutation numbering.now (the_text text.now)) place why)) }
+    ensures refused { IfErr result (λ e. IfRefused e (λ place why. (start : List Literal)
+        → FirstFailureBy strict (declared_in shared.old) start (numbered_refutation numbering.now (the_text text.now)) place why)) }
 {
     let rows = text.witnesses.len();
     let mut seen = Seen::new(alloc);
@@ -168,8 +172,11 @@ fn check_with(
     requires scope { shared_scope shared.old ≡ scope_of problem.now.declared }
     requires problem { IsTyped problem.now }
     requires room { length text.now.witnesses + length text.now.lines < 2 ^ 64 }
-    ensures accepted { OnOk result (IsAcceptedBy strict (declared_in shared.old) (start (unfolded_if unfolds problem.now)) (numbered_refutation numbering.now (the_text text.now))) }
-    ensures refused { IfErr result (λ e. IfRefused e (FirstFailureBy strict (declared_in shared.old) (start (unfolded_if unfolds problem.now)) (numbered_refutation numbering.now (the_text text.now)))) }
+    ensures accepted { OnOk result (IsAcceptedBy strict (declared_in shared.old) (start (unfolded_if unfolds problem.now))
+        (numbered_refutation numbering.now (the_text text.now))) }
+    ensures refused { IfErr result
+        (λ e. IfRefused e (FirstFailureBy strict (declared_in shared.old) (start (unfolded_if unfolds problem.now))
+        (numbered_refutation numbering.now (the_text text.now)))) }
 {
     let start = shared.start(alloc, problem, unfolds)?;
     check_from(alloc, shared, numbering, &start, text, strict)

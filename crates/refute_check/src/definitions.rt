@@ -28,7 +28,8 @@ fn taken_name<'a>(sig: &'a Signature, taken: &NameIds, i: usize) -> &'a [u8]
 /// Whether a place of the list has a constant of this name.
 fn has_at(sig: &Signature, taken: &NameIds, i: usize, name: &[u8]) -> bool
     requires { AllByRecursion (λ k. k < length sig.now.consts) taken.now }
-    ensures { IsTrue result ↔ (slice_get (map (name_numbered (names_of sig.now.bases sig.now.consts).constants) taken.now) i ≡ Some name.now) }
+    ensures { IsTrue result ↔ (slice_get (map (name_numbered (names_of sig.now.bases sig.now.consts).constants) taken.now) i ≡ Some
+        name.now) }
 {
     if i < taken.len() {
         taken_name(sig, taken, i) == name
@@ -40,7 +41,8 @@ fn has_at(sig: &Signature, taken: &NameIds, i: usize, name: &[u8]) -> bool
 /// The first place at which names differ from those of constants.
 fn first_other(names: &TextNames, sig: &Signature, taken: &NameIds) -> Option<usize>
     requires { AllByRecursion (λ k. k < length sig.now.consts) taken.now }
-    ensures other { IfSome result (DifferFirst names.now (map (name_numbered (names_of sig.now.bases sig.now.consts).constants) taken.now)) }
+    ensures other { IfSome result
+        (DifferFirst names.now (map (name_numbered (names_of sig.now.bases sig.now.consts).constants) taken.now)) }
     ensures within { IfSome result (λ place. place ≤ length names.now) }
     ensures same { IfNone result (names.now ≡ map (name_numbered (names_of sig.now.bases sig.now.consts).constants) taken.now) }
 {

@@ -21,7 +21,8 @@ impl Shared {
     ) -> Result<Option<Instance>, AllocError>
         requires good { IsGoodShared self.old }
         requires taken { (ls : List Literal) × (rule : PlainRule) × IsTaken self.old ls rule by.now }
-        ensures finds { IfOk result (λ o. (ls : List Literal) (rule : PlainRule) → IsTaken self.old ls rule by.now → FindsUse self.old self.new ls rule o) }
+        ensures finds { IfOk result (λ o. (ls : List Literal) (rule : PlainRule) → IsTaken self.old ls rule by.now
+            → FindsUse self.old self.new ls rule o) }
         ensures extends { IfOk result (λ o. IfSome o (λ _. ExtendsShared self.old self.new)) }
         ensures good { IfOk result (λ o. IfSome o (λ _. IsGoodShared self.new)) }
     {

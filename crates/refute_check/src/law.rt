@@ -16,13 +16,16 @@ use stt_core::Problem;
 /// Where a text of either version is accepted for a typed problem, no model meets the problem.
 pub fn accepted_texts_refute(problem: &Problem)
     requires { IsTyped problem.now }
-    ensures { (t : RefutationTree) → IsAcceptedFor problem.now t → (m : Model) → IsModel (scope_of problem.now.declared) m → MeetsProblem problem.now m → ⊥ }
+    ensures { (t : RefutationTree) → IsAcceptedFor problem.now t → (m : Model) → IsModel (scope_of problem.now.declared) m
+        → MeetsProblem problem.now m → ⊥ }
 {}
 
 /// A text is refused at one line, for one cause, and isn't accepted then.
 pub fn one_refusal(problem: &Problem)
-    ensures one { (t : RefutationTree) (first line other : ℕ) (why cause : Why) → TextFailsAt problem.now t first line why → TextFailsAt problem.now t first other cause → (line ≡ other) × (why ≡ cause) }
-    ensures refused { (t : RefutationTree) (first line : ℕ) (why : Why) → TextFailsAt problem.now t first line why → IsAcceptedFor problem.now t → ⊥ }
+    ensures one { (t : RefutationTree) (first line other : ℕ) (why cause : Why) → TextFailsAt problem.now t first line why
+        → TextFailsAt problem.now t first other cause → (line ≡ other) × (why ≡ cause) }
+    ensures refused { (t : RefutationTree) (first line : ℕ) (why : Why) → TextFailsAt problem.now t first line why
+        → IsAcceptedFor problem.now t → ⊥ }
 {}
 
 /// The start of the unfolded problem is its own. A text with the names of the definitions that are taken, of whichever version it is, is

@@ -80,7 +80,8 @@ impl Shared {
     ) -> Result<Option<Why>, AllocError>
         requires good { IsGoodShared self.old }
         ensures answer { IfOk result (RowAnswer (declared_in self.old) (the_rows self.old) (numbered_row numbering.now predicate.now)) }
-        ensures rows { IfOk result (λ why. why ≡ None → the_rows self.new ≡ the_rows self.old ++ numbered_row numbering.now predicate.now ∷ []) }
+        ensures rows { IfOk result (λ why. why ≡ None → the_rows self.new ≡ the_rows self.old ++ numbered_row numbering.now predicate.now
+            ∷ []) }
         ensures atoms { IfOk result (λ why. why ≡ None → Grow (shared_atoms self.old) (shared_atoms self.new)) }
         ensures declared { IfOk result (λ why. why ≡ None → declared_in self.new ≡ declared_in self.old) }
         ensures good { IfOk result (λ why. why ≡ None → IsGoodShared self.new) }

@@ -61,7 +61,8 @@ impl<'t> Seen<'t> {
 
     /// Notes the number of the literal, where its place is the next one.
     fn note(&mut self, place: usize, lit: &'t TextLit, number: SatLit) -> Result<(), AllocError>
-        ensures { OnOk result ((names : Names) (s : TheShared) → IsSeen names s self.old → NumbersLiteral s (numbered_literal names lit.now) (Some number) → IsSeen names s self.new) }
+        ensures { OnOk result ((names : Names) (s : TheShared) → IsSeen names s self.old
+            → NumbersLiteral s (numbered_literal names lit.now) (Some number) → IsSeen names s self.new) }
     {
         if place == self.items.len() {
             self.items.push(Noted { lit, number })?;

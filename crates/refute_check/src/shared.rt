@@ -66,7 +66,8 @@ impl Shared {
     /// The type of a closed term, where it is canonical.
     fn type_of(&self, alloc: Global, nf: &Nf) -> Result<Option<Ty>, AllocError>
         requires good { IsGoodShared self.now }
-        ensures { IfOk result (λ found. (a : SimpleType) → (option_map the_type found ≡ Some a) ↔ IsCanonical (shared_scope self.now) [] a nf.now) }
+        ensures { IfOk result (λ found. (a : SimpleType) → (option_map the_type found ≡ Some a) ↔ IsCanonical (shared_scope self.now) [] a
+            nf.now) }
     {
         Ok(type_of_closed(alloc, self.bank.sig(), &self.types, nf)?)
     }

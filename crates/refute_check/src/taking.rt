@@ -58,7 +58,8 @@ impl Shared {
         term: &TextTerm,
     ) -> Result<Taking, AllocError>
         requires good { IsGoodShared self.old }
-        ensures takes { IfOk result (λ taking. (ls : List Literal) → AreNumbersOf self.old ls branch.now → Takes self.new ls (AllPos i (numbered_term numbering.now term.now)) taking) }
+        ensures takes { IfOk result (λ taking. (ls : List Literal) → AreNumbersOf self.old ls branch.now
+            → Takes self.new ls (AllPos i (numbered_term numbering.now term.now)) taking) }
         ensures extends { OnOk result (ExtendsShared self.old self.new) }
         ensures good { OnOk result (IsGoodShared self.new) }
     {
@@ -80,7 +81,8 @@ impl Shared {
         predicate: &TextTerm,
     ) -> Result<Taking, AllocError>
         requires good { IsGoodShared self.old }
-        ensures takes { IfOk result (λ taking. (ls : List Literal) → Takes self.new ls (WithPredicate rule (numbered_term numbering.now predicate.now)) taking) }
+        ensures takes { IfOk result (λ taking. (ls : List Literal) → Takes self.new ls
+            (WithPredicate rule (numbered_term numbering.now predicate.now)) taking) }
         ensures extends { OnOk result (ExtendsShared self.old self.new) }
         ensures good { OnOk result (IsGoodShared self.new) }
     {
@@ -98,7 +100,8 @@ impl Shared {
         lit: &TextLit,
     ) -> Result<Taking, AllocError>
         requires good { IsGoodShared self.old }
-        ensures takes { IfOk result (λ taking. (ls : List Literal) → Takes self.new ls (Cut (numbered_literal numbering.now lit.now)) taking) }
+        ensures takes { IfOk result (λ taking. (ls : List Literal) → Takes self.new ls (Cut (numbered_literal numbering.now lit.now))
+            taking) }
         ensures extends { OnOk result (ExtendsShared self.old self.new) }
         ensures good { OnOk result (IsGoodShared self.new) }
     {
@@ -117,7 +120,8 @@ impl Shared {
         rule: &TextRule,
     ) -> Result<Taking, AllocError>
         requires good { IsGoodShared self.old }
-        ensures takes { IfOk result (λ taking. (ls : List Literal) → AreNumbersOf self.old ls branch.now → Takes self.new ls (numbered_rule numbering.now rule.now) taking) }
+        ensures takes { IfOk result (λ taking. (ls : List Literal) → AreNumbersOf self.old ls branch.now
+            → Takes self.new ls (numbered_rule numbering.now rule.now) taking) }
         ensures extends { OnOk result (ExtendsShared self.old self.new) }
         ensures good { OnOk result (IsGoodShared self.new) }
     {

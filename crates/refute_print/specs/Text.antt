@@ -120,8 +120,8 @@ abbrev pub line_text : ℕ → LineTree → List ℕ
 line_text k line =
     decimal k
     ++ (codes ": "
-            ++ (rule_text line.rule
-                    ++ (codes " [" ++ (branch_text line.branch ++ (codes "] [" ++ (children_text line.children ++ codes "]"))))))
+    ++ (rule_text line.rule
+    ++ (codes " [" ++ (branch_text line.branch ++ (codes "] [" ++ (children_text line.children ++ codes "]"))))))
 
 abbrev pub row_texts : ℕ → List TermTree → List (List ℕ)
 row_texts k [] = []

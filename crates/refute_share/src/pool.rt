@@ -67,7 +67,8 @@ impl TermPool {
 
     /// Keeps the term of a number.
     fn keep(&mut self, id: Id, term: &Rc<SharedTerm>) -> Result<(), AllocError>
-        ensures { OnOk result ((terms : List Lambda) → KnowsTerms terms self.old → term.now.value ≡ term_at terms id → KnowsTerms terms self.new) }
+        ensures { OnOk result ((terms : List Lambda) → KnowsTerms terms self.old → term.now.value ≡ term_at terms id
+            → KnowsTerms terms self.new) }
     {
         let shared = Rc::clone(term)?;
         room_for(&mut self.made, id as usize)?;

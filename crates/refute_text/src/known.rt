@@ -108,7 +108,8 @@ impl<'a> Known<'a> {
 
     /// The place of the literal with this text, where it was read before.
     fn find(&self, text: &[u8]) -> Option<usize>
-        ensures { IfSome result (λ place. (lit : LiteralTree) × (slice_get self.now place ≡ Some lit) × (literal_text lit ≡ text.now) × IsLiteralText lit) }
+        ensures { IfSome result (λ place. (lit : LiteralTree) × (slice_get self.now place ≡ Some lit) × (literal_text lit ≡ text.now)
+            × IsLiteralText lit) }
     {
         self.texts.get_index_of(&text)
     }

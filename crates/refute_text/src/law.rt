@@ -12,7 +12,8 @@ pub fn one_reading()
 
 /// The text of a refutation, which `write_text` writes, is read back between a start line and an end line.
 pub fn texts_read_back()
-    ensures { (bytes : List ℕ) (r : RefutationTree) (first : ℕ) → HasText r → TextStands bytes r first → ReadsText (lines_of bytes) (read r first) }
+    ensures { (bytes : List ℕ) (r : RefutationTree) (first : ℕ) → HasText r → TextStands bytes r first
+        → ReadsText (lines_of bytes) (read r first) }
 {}
 
 /// No two refutations have the same text.

@@ -31,7 +31,8 @@ fn more_literals<'a>(
     first: TextLits,
     bytes: &'a [u8],
 ) -> Result<LiteralsRead<'a>, Refusal>
-    ensures { AnswersReader (λ r. (r.literals, r.rest.now)) result (with_items first (repeated_at (codes ",") literal_text_at (length bytes.now) bytes.now)) }
+    ensures { AnswersReader (λ r. (r.literals, r.rest.now)) result (with_items first
+        (repeated_at (codes ",") literal_text_at (length bytes.now) bytes.now)) }
 {
     let mut literals = first;
     let mut rest = bytes;
@@ -98,7 +99,8 @@ struct ChildrenRead<'a> {
 
 /// More children behind the first ones, each after a comma.
 fn more_children(first: Children, bytes: &[u8]) -> Result<ChildrenRead<'_>, Refusal>
-    ensures { AnswersReader (λ r. (r.children, r.rest.now)) result (with_items first (repeated_at (codes ",") child_at (length bytes.now) bytes.now)) }
+    ensures { AnswersReader (λ r. (r.children, r.rest.now)) result (with_items first
+        (repeated_at (codes ",") child_at (length bytes.now) bytes.now)) }
 {
     let mut children = first;
     let mut rest = bytes;

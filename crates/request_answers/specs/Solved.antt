@@ -52,7 +52,7 @@ pub record IsProofOf (nodes : Option ℕ) (m : Mode) (p : PlainProblem) (n : ℕ
   pub stripped : Option Stripped
   pub asked :
       IsTreeAsked (scope_of p.declared) (start (unfolded_problem p)) (filter is_shallow_literal (start (unfolded_problem p)))
-          refuted.shortly.input nodes stripped
+      refuted.shortly.input nodes stripped
   pub is_told : tree ≡ tree_told stripped
   pub refutation : Refutation
   pub is_written : refutation ≡ reported_refutation rebuilt stripped

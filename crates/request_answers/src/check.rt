@@ -95,7 +95,8 @@ pub(crate) fn check_file<F: Files>(
 ) -> Answer
     requires { IsTyped problem.now }
     ensures answers { AnswersText cuts (F.seen files.old) name.now problem.now result }
-    ensures fault { (own : List ℕ) → result ≡ Answer.ReadFault (Check own) → Rose (F.faults files.old name.now) (F.faults files.new name.now) }
+    ensures fault { (own : List ℕ) → result ≡ Answer.ReadFault (Check own) → Rose (F.faults files.old name.now)
+        (F.faults files.new name.now) }
     ensures quiet { IsNoReadFault result → (other : List ℕ) → F.faults files.new other ≡ F.faults files.old other }
 
     ensures later { (other : List ℕ) → F.faults files.old other ≤ F.faults files.new other }

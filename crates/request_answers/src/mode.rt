@@ -45,7 +45,8 @@ fn read_mode_file<F: Files>(alloc: Global, files: &mut F, name: &str) -> Result<
     ensures stated { IfOk result (IsModeBy (F.seen files.old) (Some name.now)) }
     ensures in_range { IfOk result IsInRange }
     ensures unread { IfErr result (IsUnreadMode (F.seen files.old) name.now) }
-    ensures fault { (own : List ℕ) → IsErrOf result (answer.ReadFault (named.Mode own)) → Rose (F.faults files.old name.now) (F.faults files.new name.now) }
+    ensures fault { (own : List ℕ) → IsErrOf result (answer.ReadFault (named.Mode own))
+        → Rose (F.faults files.old name.now) (F.faults files.new name.now) }
     ensures quiet { OnOk result ((other : List ℕ) → F.faults files.new other ≡ F.faults files.old other) }
     ensures quiet_unread { IfErr result (λ a. IsNoReadFault a → (other : List ℕ) → F.faults files.new other ≡ F.faults files.old other) }
 
@@ -77,7 +78,8 @@ pub(crate) fn mode_by<F: Files>(
     ensures stated { IfOk result (IsModeBy (F.seen files.old) (option_map (λ f. f.now) file.entry)) }
     ensures in_range { IfOk result IsInRange }
     ensures unread { IfErr result (IsUnaskedMode (F.seen files.old) (option_map (λ f. f.now) file.entry)) }
-    ensures fault { (own : List ℕ) → IsErrOf result (answer.ReadFault (named.Mode own)) → Rose (F.faults files.old own) (F.faults files.new own) }
+    ensures fault { (own : List ℕ) → IsErrOf result (answer.ReadFault (named.Mode own))
+        → Rose (F.faults files.old own) (F.faults files.new own) }
     ensures quiet { OnOk result ((other : List ℕ) → F.faults files.new other ≡ F.faults files.old other) }
     ensures quiet_unread { IfErr result (λ a. IsNoReadFault a → (other : List ℕ) → F.faults files.new other ≡ F.faults files.old other) }
 

@@ -70,7 +70,8 @@ fn prove<F: Files>(
     ensures answers { AnswersRequest (prove problem.now (option_map (λ f. f.now) mode.entry) nodes) (F.seen files.old) result }
     ensures fault { (k : ℕ) (names : List (List ℕ)) → result ≡ Answer.ReadFault (Part k names)
         → IsFaultIn problem.now (F.seen files.old) (F.faults files.old) (F.faults files.new) k }
-    ensures mode_fault { (own : List ℕ) → result ≡ Answer.ReadFault (named.Mode own) → Rose (F.faults files.old own) (F.faults files.new own) }
+    ensures mode_fault { (own : List ℕ) → result ≡ Answer.ReadFault (named.Mode own)
+        → Rose (F.faults files.old own) (F.faults files.new own) }
     ensures quiet { IsNoReadFault result → (other : List ℕ) → F.faults files.new other ≡ F.faults files.old other }
 
     ensures later { (other : List ℕ) → F.faults files.old other ≤ F.faults files.new other }
@@ -111,7 +112,8 @@ fn prove_by_schedule<F: Files>(
     ensures answers { AnswersRequest (by_schedule schedule.now problem.now) (F.seen files.old) result }
     ensures fault { (k : ℕ) (names : List (List ℕ)) → result ≡ Answer.ReadFault (Part k names)
         → IsFaultIn problem.now (F.seen files.old) (F.faults files.old) (F.faults files.new) k }
-    ensures schedule_fault { (own : List ℕ) → result ≡ Answer.ReadFault (named.Schedule own) → Rose (F.faults files.old own) (F.faults files.new own) }
+    ensures schedule_fault { (own : List ℕ) → result ≡ Answer.ReadFault (named.Schedule own)
+        → Rose (F.faults files.old own) (F.faults files.new own) }
     ensures quiet { IsNoReadFault result → (other : List ℕ) → F.faults files.new other ≡ F.faults files.old other }
 
     ensures later { (other : List ℕ) → F.faults files.old other ≤ F.faults files.new other }

@@ -51,7 +51,8 @@ pub(crate) fn read_schedule_file<F: Files>(
     ensures slices { IfOk result (λ blocks. All (λ b. (0 < b.slice) × (b.slice ≤ greatest_slice)) blocks.items) }
     ensures in_range { IfOk result (λ blocks. All (λ b. IsInRange b.mode) blocks.items) }
     ensures unread { IfErr result (IsUnreadSchedule (F.seen files.old) name.now) }
-    ensures fault { (own : List ℕ) → IsErrOf result (answer.ReadFault (named.Schedule own)) → Rose (F.faults files.old name.now) (F.faults files.new name.now) }
+    ensures fault { (own : List ℕ) → IsErrOf result (answer.ReadFault (named.Schedule own))
+        → Rose (F.faults files.old name.now) (F.faults files.new name.now) }
     ensures quiet { OnOk result ((other : List ℕ) → F.faults files.new other ≡ F.faults files.old other) }
     ensures quiet_unread { IfErr result (λ a. IsNoReadFault a → (other : List ℕ) → F.faults files.new other ≡ F.faults files.old other) }
 

@@ -51,7 +51,8 @@ pub(crate) fn proof_text(
 ) -> Result<ProofText, AllocError>
     requires typed { IsTyped problem.now }
     requires named { IsNamed (names_in problem.now) refutation }
-    ensures { IfOk result (λ text. text ≡ as_bytes (text_lines (named_refutation (names_in problem.now) (taken_names problem.now) refutation))) }
+    ensures { IfOk result
+        (λ text. text ≡ as_bytes (text_lines (named_refutation (names_in problem.now) (taken_names problem.now) refutation))) }
 {
     let names = taken(alloc, problem)?;
     ProofText::new(alloc, &problem.signature, names.as_slice(), refutation)

@@ -253,7 +253,8 @@ fn push_live_reversed(
 }
 
 fn forget_all(table: &mut StampTable, placed: &[Placed])
-    ensures { (l : SatLit) → stamp_of table.new l ≡ (if list_any (λ p. same_literal p.literal l) placed.now then None else stamp_of table.old l) }
+    ensures { (l : SatLit) → stamp_of table.new l ≡ (if list_any (λ p. same_literal p.literal l) placed.now then None else stamp_of
+        table.old l) }
 {
     for p in placed {
         table.forget(p.literal);

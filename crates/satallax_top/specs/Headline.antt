@@ -167,14 +167,14 @@ pub record IsProofReport (words : List (List ℕ)) (seen : Seen) (outcome : Outc
   pub stripped : Option Stripped
   pub tree :
       IsTreeAsked (scope_of problem.declared) (start (unfolded_problem problem))
-          (filter is_shallow_literal (start (unfolded_problem problem))) refuted.shortly.input nodes stripped
+      (filter is_shallow_literal (start (unfolded_problem problem))) refuted.shortly.input nodes stripped
   pub refutation : Refutation
   pub is_written : refutation ≡ reported_refutation rebuilt stripped
   pub is_report :
       written
-          ≡ report_of (asked_name words)
-                  (Proved (claim_of problem) reported number (tree_told stripped)
-                          (as_bytes (text_lines (named_refutation (names_in problem) (taken_names problem) refutation))))
+      ≡ report_of (asked_name words)
+      (Proved (claim_of problem) reported number (tree_told stripped)
+      (as_bytes (text_lines (named_refutation (names_in problem) (taken_names problem) refutation))))
   pub holds : HoldsOnly problem written refutation
   pub accepted_text : IsAcceptedText Allowed problem written
   pub strict_text : IsTreeMade stripped → IsAcceptedText Forbidden problem written

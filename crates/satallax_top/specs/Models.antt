@@ -82,5 +82,5 @@ pub record IsModelReport (words : List (List ℕ)) (seen : Seen) (outcome : Outc
       outcome ≡ outcome_of (model_answer_by problem.conjecture size (model_text (names_in problem) (model_symbols problem) values))
   pub is_report :
       written
-          ≡ report_of (asked_name words)
-                  (model_answer_by problem.conjecture size (model_text (names_in problem) (model_symbols problem) values))
+      ≡ report_of (asked_name words)
+      (model_answer_by problem.conjecture size (model_text (names_in problem) (model_symbols problem) values))

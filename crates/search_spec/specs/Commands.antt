@@ -17,7 +17,7 @@ use Rattle.search_spec.specs.Processing.{with_processing}
 abbrev pub with_mating : Setting → Literal → Literal → State → State
 with_mating setting l m s =
     with_instance setting.mode (l ∷ m ∷ [])
-        (differ (type_of (scope_in setting s) [] (head_of l.atom)) (arguments l.atom) (arguments m.atom)) s
+    (differ (type_of (scope_in setting s) [] (head_of l.atom)) (arguments l.atom) (arguments m.atom)) s
 
 -- an equation and the negation of one, by their atoms
 abbrev pub with_confrontation : Setting → Literal → Literal → Lambda → Lambda → State → State

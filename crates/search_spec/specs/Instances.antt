@@ -22,5 +22,5 @@ abbrev pub with_instance : Mode → List Literal → Alternatives → State → 
 with_instance mode principals alternatives s =
     if list_all (list_all is_shallow_literal) alternatives
     then with_literals mode (flat_map (λ (a : List Literal). a) alternatives)
-        (record s { clauses = with_clauses formulas s.clauses (instance_clauses formulas principals alternatives) })
+    (record s { clauses = with_clauses formulas s.clauses (instance_clauses formulas principals alternatives) })
     else s

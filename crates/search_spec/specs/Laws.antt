@@ -28,10 +28,10 @@ abbrev pub NumberedInstances : Type 0
 NumberedInstances =
     (atoms : List Lambda) → AreApart atoms
     → (principals : List SatLit) (alternatives : List (List SatLit))
-        → Each (IsNumber atoms) principals
-        → Each (Each (IsNumber atoms)) alternatives
+    → Each (IsNumber atoms) principals
+    → Each (Each (IsNumber atoms)) alternatives
     → instance_clauses formulas (map (literal_at atoms) principals) (map (map (literal_at atoms)) alternatives)
-            ≡ map (map (literal_at atoms)) (instance_clauses numbers principals alternatives)
+    ≡ map (map (literal_at atoms)) (instance_clauses numbers principals alternatives)
 
 -- .. clauses in numbers with further ones stand for the clauses with the further ones ..
 abbrev pub NumberedClauses : Type 0
@@ -39,7 +39,7 @@ NumberedClauses =
     (atoms : List Lambda) → AreApart atoms
     → (clauses further : List (List SatLit)) → Each (Each (IsNumber atoms)) clauses → Each (Each (IsNumber atoms)) further
     → with_clauses formulas (map (map (literal_at atoms)) clauses) (map (map (literal_at atoms)) further)
-            ≡ map (map (literal_at atoms)) (with_clauses numbers clauses further)
+    ≡ map (map (literal_at atoms)) (with_clauses numbers clauses further)
 
 -- .. and clauses in numbers are unsatisfiable exactly where the clauses that they stand for are.
 abbrev pub NumberedUnsatisfiable : Type 0

@@ -23,7 +23,7 @@ abbrev pub with_decomposition : Setting → SimpleType → Lambda → Lambda →
 with_decomposition setting a s t state =
     if is_spine s && same_head s t
     then with_instance setting.mode (minus (eq a s t) ∷ [])
-        (differ (type_of (scope_in setting state) [] (head_of s)) (arguments s) (arguments t)) state
+    (differ (type_of (scope_in setting state) [] (head_of s)) (arguments s) (arguments t)) state
     else state
 
 abbrev pub with_confrontations : Setting → SimpleType → Literal → State → State
@@ -36,8 +36,8 @@ with_equation setting (base zero) false s t = with_instance setting.mode (minus 
 with_equation setting (arrow a b) true s t = with_instance setting.mode (plus (eq (arrow a b) s t) ∷ []) (fun_pos a b s t)
 with_equation setting (arrow a b) false s t =
     λ state.
-        with_instance setting.mode (minus (eq (arrow a b) s t) ∷ []) (fun_neg a b s t)
-            (with_terms setting.mode (arrow a b) (offered_sides setting.mode s t) state)
+    with_instance setting.mode (minus (eq (arrow a b) s t) ∷ []) (fun_neg a b s t)
+    (with_terms setting.mode (arrow a b) (offered_sides setting.mode s t) state)
 with_equation setting (base (suc n)) true s t = with_confrontations setting (base (suc n)) (plus (eq (base (suc n)) s t))
 with_equation setting (base (suc n)) false s t =
     λ state. with_confrontations setting (base (suc n)) (minus (eq (base (suc n)) s t))

@@ -132,15 +132,15 @@ abbrev pub AllRuns : Type 0
 AllRuns =
     (commands (trace all_setting 8 (Some (starting_state all_setting all_start))) ≡ all_commands)
     × (dues (trace all_setting 8 (Some (starting_state all_setting all_start)))
-                ≡ (0, 0) ∷ (0, 1) ∷ (2, 2) ∷ (3, 3) ∷ (5, 4) ∷ (5, 6) ∷ (6, 5) ∷ (7, 7) ∷ [])
+    ≡ (0, 0) ∷ (0, 1) ∷ (2, 2) ∷ (3, 3) ∷ (5, 4) ∷ (5, 6) ∷ (6, 5) ∷ (7, 7) ∷ [])
 
 -- the second command's clause denies what the first literal says, so that the clauses are unsatisfiable
 abbrev pub AgreeRuns : Type 0
 AgreeRuns =
     (commands (trace agree_setting 2 (Some (starting_state agree_setting (agree_everywhere ∷ agree_goal ∷ []))))
-            ≡ process agree_everywhere ∷ process agree_goal ∷ [])
+    ≡ process agree_everywhere ∷ process agree_goal ∷ [])
     × (option_map (λ s. s.clauses) (state_after agree_setting (agree_everywhere ∷ agree_goal ∷ []) 2)
-                ≡ Some ((agree_everywhere ∷ []) ∷ (agree_goal ∷ []) ∷ (opposite agree_goal ∷ opposite agree_everywhere ∷ []) ∷ []))
+    ≡ Some ((agree_everywhere ∷ []) ∷ (agree_goal ∷ []) ∷ (opposite agree_goal ∷ opposite agree_everywhere ∷ []) ∷ []))
 
 abbrev pub ChosenRuns : Type 0
 ChosenRuns =
@@ -151,28 +151,28 @@ ChosenRuns =
 abbrev pub DescribedRuns : Type 0
 DescribedRuns =
     (commands (trace chosen_setting 6 (Some (starting_state chosen_setting described_start)))
-            ≡ process some_p ∷ process only_p ∷ process p_of_described ∷ process (plus (p_at (constant (witness 0)))) ∷ inst only_p default
-                ∷ describe i p_of ∷ [])
+    ≡ process some_p ∷ process only_p ∷ process p_of_described ∷ process (plus (p_at (constant (witness 0)))) ∷ inst only_p default
+    ∷ describe i p_of ∷ [])
     × (option_map (λ s. drop 5 s.clauses) (state_after chosen_setting described_start 6)
-                ≡ Some ((opposite some_p ∷ opposite only_p ∷ opposite p_of_described ∷ []) ∷ []))
+    ≡ Some ((opposite some_p ∷ opposite only_p ∷ opposite p_of_described ∷ []) ∷ []))
 
 abbrev pub SymRuns : Type 0
 SymRuns =
     commands (trace sym_setting 6 (Some (starting_state sym_setting (a_is_b ∷ b_is_not_a ∷ []))))
     ≡ process a_is_b ∷ process b_is_not_a ∷ confront a_is_b b_is_not_a ∷ process (minus (eq i (named 0) (named 1)))
-        ∷ process (minus (eq i (named 1) (named 1))) ∷ process (minus (eq i (named 0) (named 0))) ∷ []
+    ∷ process (minus (eq i (named 1) (named 1))) ∷ process (minus (eq i (named 0) (named 0))) ∷ []
 
 abbrev pub SomeRuns : Type 0
 SomeRuns =
     (dues (trace some_setting 28 (Some (starting_state some_setting (none_holds ∷ []))))
-            ≡ (0, 0) ∷ (5, 1) ∷ (3, 7) ∷ (3, 8) ∷ (5, 2) ∷ (5, 3) ∷ (5, 4) ∷ (5, 5) ∷ (5, 6) ∷ (9, 9) ∷ (9, 10) ∷ (9, 11) ∷ (9, 12)
-                ∷ (9, 13)
-                ∷ (9, 14) ∷ (10, 15) ∷ (10, 16) ∷ (10, 17) ∷ (10, 18) ∷ (10, 19) ∷ (10, 20) ∷ (11, 21) ∷ (11, 22) ∷ (11, 23) ∷ (11, 24)
-                ∷ (11, 25) ∷ (11, 26) ∷ (11, 36) ∷ [])
+    ≡ (0, 0) ∷ (5, 1) ∷ (3, 7) ∷ (3, 8) ∷ (5, 2) ∷ (5, 3) ∷ (5, 4) ∷ (5, 5) ∷ (5, 6) ∷ (9, 9) ∷ (9, 10) ∷ (9, 11) ∷ (9, 12)
+    ∷ (9, 13)
+    ∷ (9, 14) ∷ (10, 15) ∷ (10, 16) ∷ (10, 17) ∷ (10, 18) ∷ (10, 19) ∷ (10, 20) ∷ (11, 21) ∷ (11, 22) ∷ (11, 23) ∷ (11, 24)
+    ∷ (11, 25) ∷ (11, 26) ∷ (11, 36) ∷ [])
     × (option_map (λ s. s.clauses) (state_after some_setting (none_holds ∷ []) 28)
-                ≡ Some
-                        ((none_holds ∷ []) ∷ (opposite none_holds ∷ minus (constant falsity) ∷ [])
-                            ∷ (opposite none_holds ∷ plus (constant falsity) ∷ []) ∷ []))
+    ≡ Some
+    ((none_holds ∷ []) ∷ (opposite none_holds ∷ minus (constant falsity) ∷ [])
+    ∷ (opposite none_holds ∷ plus (constant falsity) ∷ []) ∷ []))
 
 -- the first problem's commands are the same ones, and are due earlier; the last problem's come in another order: what the first term gives,
 -- which was pushed as number 35, goes before what was pushed as number 8
@@ -180,16 +180,16 @@ abbrev pub DueRuns : Type 0
 DueRuns =
     (commands (trace (by_due all_setting) 8 (Some (starting_state (by_due all_setting) all_start))) ≡ all_commands)
     × (dues (trace (by_due all_setting) 8 (Some (starting_state (by_due all_setting) all_start)))
-                ≡ (0, 0) ∷ (0, 1) ∷ (1, 2) ∷ (1, 3) ∷ (2, 4) ∷ (2, 6) ∷ (3, 5) ∷ (3, 7) ∷ [])
+    ≡ (0, 0) ∷ (0, 1) ∷ (1, 2) ∷ (1, 3) ∷ (2, 4) ∷ (2, 6) ∷ (3, 5) ∷ (3, 7) ∷ [])
     × (dues (trace (by_due some_setting) 37 (Some (starting_state (by_due some_setting) (none_holds ∷ []))))
-                ≡ (0, 0) ∷ (4, 1) ∷ (4, 2) ∷ (4, 3) ∷ (4, 4) ∷ (4, 5) ∷ (4, 6) ∷ (5, 7) ∷ (5, 35) ∷ (8, 8) ∷ (8, 9) ∷ (8, 10) ∷ (8, 11)
-                    ∷ (8, 12) ∷ (8, 13) ∷ (8, 14) ∷ (8, 15) ∷ (8, 16) ∷ (8, 17) ∷ (8, 18) ∷ (8, 19) ∷ (8, 20) ∷ (8, 21) ∷ (8, 22) ∷ (8, 23)
-                    ∷ (8, 24) ∷ (8, 25) ∷ (8, 26) ∷ (8, 27) ∷ (8, 28) ∷ (8, 29) ∷ (8, 30) ∷ (8, 31) ∷ (8, 32) ∷ (8, 33) ∷ (8, 34) ∷ (9, 36)
-                    ∷ [])
+    ≡ (0, 0) ∷ (4, 1) ∷ (4, 2) ∷ (4, 3) ∷ (4, 4) ∷ (4, 5) ∷ (4, 6) ∷ (5, 7) ∷ (5, 35) ∷ (8, 8) ∷ (8, 9) ∷ (8, 10) ∷ (8, 11)
+    ∷ (8, 12) ∷ (8, 13) ∷ (8, 14) ∷ (8, 15) ∷ (8, 16) ∷ (8, 17) ∷ (8, 18) ∷ (8, 19) ∷ (8, 20) ∷ (8, 21) ∷ (8, 22) ∷ (8, 23)
+    ∷ (8, 24) ∷ (8, 25) ∷ (8, 26) ∷ (8, 27) ∷ (8, 28) ∷ (8, 29) ∷ (8, 30) ∷ (8, 31) ∷ (8, 32) ∷ (8, 33) ∷ (8, 34) ∷ (9, 36)
+    ∷ [])
     × (option_map (λ s. s.clauses) (state_after (by_due some_setting) (none_holds ∷ []) 37)
-                ≡ Some
-                        ((none_holds ∷ []) ∷ (opposite none_holds ∷ minus (constant falsity) ∷ [])
-                            ∷ (opposite none_holds ∷ plus (constant falsity) ∷ []) ∷ []))
+    ≡ Some
+    ((none_holds ∷ []) ∷ (opposite none_holds ∷ minus (constant falsity) ∷ [])
+    ∷ (opposite none_holds ∷ plus (constant falsity) ∷ []) ∷ []))
 
 -- p: $i > $o holds of something, all is c, and the conjecture is that p holds of c
 abbrev pub all_c : Literal
@@ -203,22 +203,22 @@ abbrev pub OfferedRuns : Type 0
 OfferedRuns =
     (commands (trace (with_terms_offered all_setting) 7 (Some (starting_state (with_terms_offered all_setting) all_c_start)))
     ≡ process some_p ∷ process all_c ∷ process (minus (p_at (named 1))) ∷ process (plus (p_at (constant (witness 0))))
-        ∷ inst all_c (constant (witness 0)) ∷ inst all_c default ∷ mate (plus (p_at (constant (witness 0)))) (minus (p_at (named 1))) ∷ [])
+    ∷ inst all_c (constant (witness 0)) ∷ inst all_c default ∷ mate (plus (p_at (constant (witness 0)))) (minus (p_at (named 1))) ∷ [])
     × (dues (trace (with_terms_offered all_setting) 7 (Some (starting_state (with_terms_offered all_setting) all_c_start)))
-                ≡ (0, 0) ∷ (0, 1) ∷ (0, 2) ∷ (1, 3) ∷ (3, 4) ∷ (3, 5) ∷ (5, 6) ∷ [])
+    ≡ (0, 0) ∷ (0, 1) ∷ (0, 2) ∷ (1, 3) ∷ (3, 4) ∷ (3, 5) ∷ (5, 6) ∷ [])
     × (commands (trace all_setting 6 (Some (starting_state all_setting all_c_start)))
     ≡ process some_p ∷ process all_c ∷ process (minus (p_at (named 1))) ∷ process (plus (p_at (constant (witness 0))))
-        ∷ inst all_c default ∷ mate (plus (p_at (constant (witness 0)))) (minus (p_at (named 1))) ∷ [])
+    ∷ inst all_c default ∷ mate (plus (p_at (constant (witness 0)))) (minus (p_at (named 1))) ∷ [])
 
 -- the mating comes before the instance with the default term, and then the instance with the witness
 abbrev pub DelayedRuns : Type 0
 DelayedRuns =
     (commands (trace (with_defaults_late all_setting) 7 (Some (starting_state (with_defaults_late all_setting) all_c_start)))
     ≡ process some_p ∷ process all_c ∷ process (minus (p_at (named 1))) ∷ process (plus (p_at (constant (witness 0))))
-        ∷ mate (plus (p_at (constant (witness 0)))) (minus (p_at (named 1))) ∷ process (minus (eq i (constant (witness 0)) (named 1)))
-        ∷ inst all_c (constant (witness 0)) ∷ [])
+    ∷ mate (plus (p_at (constant (witness 0)))) (minus (p_at (named 1))) ∷ process (minus (eq i (constant (witness 0)) (named 1)))
+    ∷ inst all_c (constant (witness 0)) ∷ [])
     × (dues (trace (with_defaults_late all_setting) 7 (Some (starting_state (with_defaults_late all_setting) all_c_start)))
-                ≡ (0, 0) ∷ (0, 1) ∷ (0, 2) ∷ (1, 3) ∷ (5, 5) ∷ (5, 6) ∷ (7, 7) ∷ [])
+    ≡ (0, 0) ∷ (0, 1) ∷ (0, 2) ∷ (1, 3) ∷ (5, 5) ∷ (5, 6) ∷ (7, 7) ∷ [])
 
 -- c: $i, and d: $i, q: $i > $o and a base type, of which the conjecture says nothing: that something holds of c
 abbrev pub unseen_setting : Setting
@@ -228,25 +228,25 @@ unseen_setting = record { scope = record { bases = 1; names = i ∷ i ∷ predic
 abbrev pub SeenHeads : Type 0
 SeenHeads =
     (heads_at unseen_setting (none_holds ∷ []) (record { base = 1; context = i ∷ [] })
-            ≡ bound 0 ∷ named 0 ∷ named 1 ∷ constant (choice i) ∷ [])
+    ≡ bound 0 ∷ named 0 ∷ named 1 ∷ constant (choice i) ∷ [])
     × (heads_at (with_seen_heads unseen_setting) (none_holds ∷ []) (record { base = 1; context = i ∷ [] }) ≡ bound 0 ∷ named 0 ∷ [])
     × (heads_at (with_seen_heads unseen_setting) (none_holds ∷ []) (record { base = 2; context = i ∷ [] })
-                ≡ constant (choice (base 2)) ∷ [])
+    ≡ constant (choice (base 2)) ∷ [])
     × (heads_at (with_seen_heads unseen_setting) (none_holds ∷ []) (record { base = 0; context = i ∷ [] })
     ≡ constant falsity ∷ constant negation ∷ constant implication ∷ constant (equality (base 0)) ∷ constant (equality i)
-        ∷ constant (all i) ∷ [])
+    ∷ constant (all i) ∷ [])
     × (heads_at (with_seen_heads chosen_setting) described_start (record { base = 1; context = i ∷ [] })
-                ≡ bound 0 ∷ constant (choice i) ∷ [])
+    ≡ bound 0 ∷ constant (choice i) ∷ [])
 
 -- what doesn't occur makes no difference: the run is that of the problem with c alone, but for the choices
 abbrev pub SeenRuns : Type 0
 SeenRuns =
     SeenHeads
     × (dues (trace (with_seen_heads unseen_setting) 28 (Some (starting_state (with_seen_heads unseen_setting) (none_holds ∷ []))))
-                ≡ (0, 0) ∷ (5, 1) ∷ (3, 7) ∷ (3, 8) ∷ (5, 2) ∷ (5, 3) ∷ (5, 4) ∷ (5, 5) ∷ (5, 6) ∷ (9, 9) ∷ (9, 10) ∷ (9, 11) ∷ (9, 12)
-                    ∷ (9, 13) ∷ (9, 14) ∷ (10, 15) ∷ (10, 16) ∷ (10, 17) ∷ (10, 18) ∷ (10, 19) ∷ (10, 20) ∷ (11, 21) ∷ (11, 22) ∷ (11, 23)
-                    ∷ (11, 24) ∷ (11, 25) ∷ (11, 26) ∷ (11, 35) ∷ [])
+    ≡ (0, 0) ∷ (5, 1) ∷ (3, 7) ∷ (3, 8) ∷ (5, 2) ∷ (5, 3) ∷ (5, 4) ∷ (5, 5) ∷ (5, 6) ∷ (9, 9) ∷ (9, 10) ∷ (9, 11) ∷ (9, 12)
+    ∷ (9, 13) ∷ (9, 14) ∷ (10, 15) ∷ (10, 16) ∷ (10, 17) ∷ (10, 18) ∷ (10, 19) ∷ (10, 20) ∷ (11, 21) ∷ (11, 22) ∷ (11, 23)
+    ∷ (11, 24) ∷ (11, 25) ∷ (11, 26) ∷ (11, 35) ∷ [])
     × (option_map (λ s. s.clauses) (state_after (with_seen_heads unseen_setting) (none_holds ∷ []) 28)
-                ≡ Some
-                        ((none_holds ∷ []) ∷ (opposite none_holds ∷ minus (constant falsity) ∷ [])
-                            ∷ (opposite none_holds ∷ plus (constant falsity) ∷ []) ∷ []))
+    ≡ Some
+    ((none_holds ∷ []) ∷ (opposite none_holds ∷ minus (constant falsity) ∷ [])
+    ∷ (opposite none_holds ∷ plus (constant falsity) ∷ []) ∷ []))

@@ -32,8 +32,8 @@ with_selection mode (by_choice a f) s =
     if list_any (same_term f) s.chosen then s else with_commands mode (choose a f ∷ []) (record s { chosen = s.chosen ++ f ∷ [] })
 with_selection mode (by_description a f) s =
     if list_any (same_term f) s.described
-      then s
-      else with_commands mode (describe a f ∷ []) (record s { described = s.described ++ f ∷ [] })
+    then s
+    else with_commands mode (describe a f ∷ []) (record s { described = s.described ++ f ∷ [] })
 
 abbrev pub with_selections : Mode → List Selection → State → State
 with_selections mode [] s = s

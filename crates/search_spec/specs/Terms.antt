@@ -37,7 +37,7 @@ with_terms mode a (u ∷ us) s = with_terms mode a us (with_term mode a u s)
 abbrev pub with_opening : Setting → Sketch → State → State
 with_opening setting p s =
     with_commands setting.mode (map (grow p) (heads_for s.offers (scope_in setting s) (first_hole [] p.partial)))
-        (record s { parked = s.parked ++ p ∷ [] })
+    (record s { parked = s.parked ++ p ∷ [] })
 
 -- the first terms of a base type: falsity and its negation for formulas, and else what the empty predicate chooses
 abbrev pub first_terms : SimpleType → List Lambda

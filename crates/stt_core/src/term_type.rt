@@ -44,7 +44,8 @@ fn term_type(
     ctx: &Context,
     term: &Term,
 ) -> Result<Option<Ty>, AllocError>
-    ensures { IfOk result (λ o. option_map the_type o ≡ type_in_scope (declared_scope declared.now) (the_context ctx.now) (the_term term.now)) }
+    ensures { IfOk result (λ o. option_map the_type o ≡ type_in_scope (declared_scope declared.now) (the_context ctx.now)
+        (the_term term.now)) }
 {
     match term {
         Term::Lam(a, body) => {

@@ -71,7 +71,8 @@ fn predicate_type(alloc: Global, a: &Ty) -> Result<Ty, AllocError>
 }
 
 fn where_same(alloc: Global, a: &Ty, b: &Ty, c: &Ty) -> Result<Option<Ty>, AllocError>
-    ensures { IfOk result (λ o. option_map the_type o ≡ applied_type (Some (arrow (the_type a.now) (the_type b.now))) (Some (the_type c.now))) }
+    ensures { IfOk result (λ o. option_map the_type o ≡ applied_type (Some (arrow (the_type a.now) (the_type b.now)))
+        (Some (the_type c.now))) }
 {
     if a.same(c) {
         Ok(Some(b.try_clone(alloc)?))
@@ -125,7 +126,8 @@ pub fn abstracted(
     a: &Ty,
     outcome: Option<Ty>,
 ) -> Result<Option<Ty>, AllocError>
-    ensures { IfOk result (λ o. option_map the_type o ≡ abstracted_type (declared_scope declared.now) (the_type a.now) (option_map the_type outcome)) }
+    ensures { IfOk result (λ o. option_map the_type o ≡ abstracted_type (declared_scope declared.now) (the_type a.now)
+        (option_map the_type outcome)) }
 {
     match outcome {
         Some(outcome) => {
@@ -184,7 +186,8 @@ fn spine_type(
     head: &Head,
     args: &Nfs,
 ) -> Result<Option<Ty>, AllocError>
-    ensures { IfOk result (λ o. option_map the_type o ≡ neutral_type (declared_scope declared.now) (the_context ctx.now) (applied (the_head head.now) args.now)) }
+    ensures { IfOk result (λ o. option_map the_type o ≡ neutral_type (declared_scope declared.now) (the_context ctx.now)
+        (applied (the_head head.now) args.now)) }
 {
     let mut ty = head_type(alloc, declared, ctx, head)?;
     for i in 0..args.len() {
@@ -205,7 +208,8 @@ fn type_under(
     head: &Head,
     args: &Nfs,
 ) -> Result<Option<Ty>, AllocError>
-    ensures { IfOk result (λ o. option_map the_type o ≡ canonical_type (declared_scope declared.now) (the_context ctx.now) (lambdas (drop i binders.now) (applied (the_head head.now) args.now))) }
+    ensures { IfOk result (λ o. option_map the_type o ≡ canonical_type (declared_scope declared.now) (the_context ctx.now)
+        (lambdas (drop i binders.now) (applied (the_head head.now) args.now))) }
 {
     if i >= binders.len() {
         let inside = spine_type(alloc, declared, ctx, head, args)?;

@@ -45,7 +45,8 @@ fn replace_head(
     args: Nfs,
 ) -> Result<Nf, AllocError>
     requires { HeadReplaces (the_type ty.now) k r.now (the_head head.now) args }
-    ensures { IfOk result (λ t. t ≡ apply_ways (ways_of (ways (the_type ty.now)) k (the_head head.now)) (replace (ways (the_type ty.now)) k r.now (the_head head.now)) args) }
+    ensures { IfOk result (λ t. t ≡ apply_ways (ways_of (ways (the_type ty.now)) k (the_head head.now))
+        (replace (ways (the_type ty.now)) k r.now (the_head head.now)) args) }
 {
     match head {
         Head::Bound(j) => {

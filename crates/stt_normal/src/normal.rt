@@ -43,7 +43,8 @@ fn normal_head(
 ) -> Result<Nf, AllocError>
     requires leaf { IsLeaf (the_term term.now) }
     requires fits { IsApplicable (declared_scope declared.now) (the_context ctx.now) (the_term term.now) args }
-    ensures { IfOk result (λ nf. nf ≡ apply_each (normal_form (declared_scope declared.now) (the_context ctx.now) (the_term term.now)) args) }
+    ensures { IfOk result (λ nf. nf ≡ apply_each (normal_form (declared_scope declared.now) (the_context ctx.now) (the_term term.now))
+        args) }
 {
     let head = term.to_head(alloc)?;
     match head_type(alloc, declared, ctx, &head)? {
@@ -73,7 +74,8 @@ fn normal_applied(
     mut args: Nfs,
 ) -> Result<Nf, AllocError>
     requires { IsApplicable (declared_scope declared.now) (the_context ctx.now) (the_term term.now) args }
-    ensures { IfOk result (λ nf. nf ≡ apply_each (normal_form (declared_scope declared.now) (the_context ctx.now) (the_term term.now)) args) }
+    ensures { IfOk result (λ nf. nf ≡ apply_each (normal_form (declared_scope declared.now) (the_context ctx.now) (the_term term.now))
+        args) }
 {
     match term {
         Term::App(function, argument) => {
@@ -106,7 +108,8 @@ pub fn normalise(
     ensures form { IfOk result (λ nf. nf ≡ normal_form (the_scope sig.now wits.now) (reverse ctx.now) (the_term term.now)) }
 
     // The same type and value as the term.
-    ensures same_type { IfOk result (λ nf. canonical_type (the_scope sig.now wits.now) (reverse ctx.now) nf ≡ type_of (the_scope sig.now wits.now) (reverse ctx.now) (the_term term.now)) }
+    ensures same_type { IfOk result (λ nf. canonical_type (the_scope sig.now wits.now) (reverse ctx.now) nf ≡ type_of
+        (the_scope sig.now wits.now) (reverse ctx.now) (the_term term.now)) }
     ensures same_value { IfOk result (λ nf. HaveSameValue (the_scope sig.now wits.now) (reverse ctx.now) nf (the_term term.now)) }
 {
     let declared = Declared { sig, wits };

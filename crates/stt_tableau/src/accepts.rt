@@ -62,7 +62,8 @@ fn check_rows(
 ) -> Result<Types, PlainRefused>
     ensures types { IfOk result (λ types. types ≡ map (λ r. r.type) refutation.now.witnesses) }
     ensures table { OnOk result (IsTable (the_scope sig.now []) refutation.now.witnesses) }
-    ensures refused { IfErr result (λ e. IfRefused e (λ line why. (start : List Literal) → FirstFailure (the_scope sig.now []) start refutation.now line why)) }
+    ensures refused { IfErr result (λ e. IfRefused e (λ line why. (start : List Literal)
+        → FirstFailure (the_scope sig.now []) start refutation.now line why)) }
 {
     let rows = &refutation.witnesses;
     let mut types = Types::new(alloc);
@@ -102,7 +103,9 @@ fn line_failure(
 ) -> Result<Option<Why>, AllocError>
     requires at { i < length refutation.now.lines }
     requires types { types.now ≡ map (λ r. r.type) refutation.now.witnesses }
-    ensures { IfOk result (λ why. (line : TheLine) → slice_get refutation.now.lines i ≡ Some line → LineAnswer (with_rows (the_scope sig.now []) refutation.now.witnesses) refutation.now.witnesses (take i refutation.now.lines) line why) }
+    ensures { IfOk result (λ why. (line : TheLine) → slice_get refutation.now.lines i ≡ Some line
+        → LineAnswer (with_rows (the_scope sig.now []) refutation.now.witnesses) refutation.now.witnesses (take i refutation.now.lines) line
+        why) }
 {
     let lines = &refutation.lines;
     let line = lines.at(i);
@@ -137,7 +140,8 @@ fn check_lines(
     requires types { types.now ≡ map (λ r. r.type) refutation.now.witnesses }
     requires table { IsTable (the_scope sig.now []) refutation.now.witnesses }
     ensures right { OnOk result (AreRightLines (the_scope sig.now []) refutation.now.witnesses refutation.now.lines) }
-    ensures refused { IfErr result (λ e. IfRefused e (λ line why. (start : List Literal) → FirstFailure (the_scope sig.now []) start refutation.now line why)) }
+    ensures refused { IfErr result (λ e. IfRefused e (λ line why. (start : List Literal)
+        → FirstFailure (the_scope sig.now []) start refutation.now line why)) }
 {
     let lines = &refutation.lines;
     for i in 0..lines.len() {
@@ -152,7 +156,8 @@ fn check_lines(
 /// Whether the last line's branch is within the start.
 fn check_last(start: &Lits, refutation: &Refutation) -> Result<(), PlainRefused>
     ensures last { OnOk result (EndsWithin start.now refutation.now.lines) }
-    ensures refused { IfErr result (λ e. IfRefused e (λ line why. (scope : Scope) → IsTable scope refutation.now.witnesses → AreRightLines scope refutation.now.witnesses refutation.now.lines → FirstFailure scope start.now refutation.now line why)) }
+    ensures refused { IfErr result (λ e. IfRefused e (λ line why. (scope : Scope) → IsTable scope refutation.now.witnesses
+        → AreRightLines scope refutation.now.witnesses refutation.now.lines → FirstFailure scope start.now refutation.now line why)) }
 {
     let rows = refutation.witnesses.len();
     let count = refutation.lines.len();

@@ -116,7 +116,9 @@ fn described_literal(alloc: Global, ty: &Ty, f: &Nf) -> Result<Lit, AllocError>
 /// That a predicate holds nowhere, that it holds of more than one value, or that it holds of what it describes.
 fn nowhere_repeated_or_described(alloc: Global, ty: &Ty, f: &Nf) -> Result<Alternatives, AllocError>
     requires { IsPredicateOn (the_type ty.now) f.now }
-    ensures { IfOk result (λ a. a ≡ (as_literal (nowhere (the_type ty.now) f.now) ∷ []) ∷ (opposite (as_literal (at_most_once (the_type ty.now) f.now)) ∷ []) ∷ (as_literal (apply f.now (described (the_type ty.now) f.now)) ∷ []) ∷ []) }
+    ensures { IfOk result (λ a. a ≡ (as_literal (nowhere (the_type ty.now) f.now) ∷ [])
+        ∷ (opposite (as_literal (at_most_once (the_type ty.now) f.now)) ∷ []) ∷ (as_literal
+        (apply f.now (described (the_type ty.now) f.now)) ∷ []) ∷ []) }
 {
     let none = nowhere_literal(alloc, ty, f)?;
     let more = repeated_literal(alloc, ty, f)?;
@@ -132,7 +134,8 @@ pub fn des_instance(
     f: &Nf,
 ) -> Result<Option<Alternatives>, AllocError>
     requires { (a : SimpleType) × IsCanonical (the_scope sig.now types.now) [] (predicate a) f.now }
-    ensures { IfOk result (λ a. (rows : List Row) → FindsInstance (the_scope sig.now types.now) rows branch.now (WithPredicate Des f.now) a) }
+    ensures { IfOk result (λ a. (rows : List Row) → FindsInstance (the_scope sig.now types.now) rows branch.now (WithPredicate Des f.now)
+        a) }
 {
     match type_of_closed(alloc, sig, types, f)? {
         Some(Ty::Arrow(a, _)) => Ok(Some(nowhere_repeated_or_described(alloc, &a, f)?)),

@@ -99,7 +99,8 @@ pub fn refl_instance(alloc: Global, branch: &Lits, i: usize) -> Option<Alternati
 
 /// Both formulas, or neither.
 fn both_or_neither(alloc: Global, s: &Nf, t: &Nf) -> Result<Alternatives, AllocError>
-    ensures { IfOk result (λ a. a ≡ (as_literal s.now ∷ as_literal t.now ∷ []) ∷ (opposite (as_literal s.now) ∷ opposite (as_literal t.now) ∷ []) ∷ []) }
+    ensures { IfOk result
+        (λ a. a ≡ (as_literal s.now ∷ as_literal t.now ∷ []) ∷ (opposite (as_literal s.now) ∷ opposite (as_literal t.now) ∷ []) ∷ []) }
 {
     let both = (literal_of(alloc, s)?, literal_of(alloc, t)?);
     let neither = (
@@ -111,7 +112,8 @@ fn both_or_neither(alloc: Global, s: &Nf, t: &Nf) -> Result<Alternatives, AllocE
 
 /// One of the formulas without the other.
 fn one_of_both(alloc: Global, s: &Nf, t: &Nf) -> Result<Alternatives, AllocError>
-    ensures { IfOk result (λ a. a ≡ (as_literal s.now ∷ opposite (as_literal t.now) ∷ []) ∷ (opposite (as_literal s.now) ∷ as_literal t.now ∷ []) ∷ []) }
+    ensures { IfOk result (λ a. a ≡ (as_literal s.now ∷ opposite (as_literal t.now) ∷ [])
+        ∷ (opposite (as_literal s.now) ∷ as_literal t.now ∷ []) ∷ []) }
 {
     let first = (literal_of(alloc, s)?, literal_of(alloc, t)?.opposite());
     let second = (literal_of(alloc, s)?.opposite(), literal_of(alloc, t)?);
@@ -186,7 +188,8 @@ pub fn differ(alloc: Global, ty: &Ty, s: &Nf, t: &Nf) -> Result<Lit, AllocError>
 
 /// The term differs from both sides of the equation.
 fn differs_from_both(alloc: Global, equation: &Equation, t: &Nf) -> Result<(Lit, Lit), AllocError>
-    ensures { IfOk result (λ ls. (ls.0 ≡ minus (eq (the_type equation.now.ty.now) equation.now.left.now t.now)) × (ls.1 ≡ minus (eq (the_type equation.now.ty.now) equation.now.right.now t.now))) }
+    ensures { IfOk result (λ ls. (ls.0 ≡ minus (eq (the_type equation.now.ty.now) equation.now.left.now t.now))
+        × (ls.1 ≡ minus (eq (the_type equation.now.ty.now) equation.now.right.now t.now))) }
 {
     let first = differ(alloc, equation.ty, equation.left, t)?;
     let second = differ(alloc, equation.ty, equation.right, t)?;

@@ -51,7 +51,8 @@ fn with_predicate(
     f: &Nf,
 ) -> Result<Option<Alternatives>, AllocError>
     requires { (a : SimpleType) × IsCanonical (the_scope sig.now types.now) [] (predicate a) f.now }
-    ensures { IfOk result (λ a. (rows : List Row) → FindsInstance (the_scope sig.now types.now) rows branch.now (WithPredicate rule f.now) a) }
+    ensures { IfOk result (λ a. (rows : List Row) → FindsInstance (the_scope sig.now types.now) rows branch.now (WithPredicate rule f.now)
+        a) }
 {
     match rule {
         OfPredicate::Cho => Ok(cho_instance(alloc, sig, types, branch, f)?),

@@ -31,7 +31,8 @@ pub fn close_instance(alloc: Global, branch: &Lits, i: usize, j: usize) -> Optio
 }
 
 pub fn cut_instance(alloc: Global, branch: &Lits, lit: &Lit) -> Result<Alternatives, AllocError>
-    ensures { IfOk result (λ a. (scope : Scope) (rows : List Row) → IsLiteral scope lit.now → FindsInstance scope rows branch.now (Cut lit.now) (Some a)) }
+    ensures { IfOk result (λ a. (scope : Scope) (rows : List Row) → IsLiteral scope lit.now
+        → FindsInstance scope rows branch.now (Cut lit.now) (Some a)) }
 {
     let left = lit.try_clone(alloc)?;
     let right = lit.try_clone(alloc)?.opposite();

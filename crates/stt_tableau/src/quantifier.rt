@@ -275,7 +275,9 @@ pub fn denied_of_witness(
     k: usize,
 ) -> Result<Alternatives, AllocError>
     requires { CanApply quantified.now.predicate.now (eta (the_type quantified.now.ty.now) (constant (witness k))) }
-    ensures { IfOk result (λ a. a ≡ (opposite (as_literal (apply quantified.now.predicate.now (eta (the_type quantified.now.ty.now) (constant (witness k))))) ∷ []) ∷ []) }
+    ensures { IfOk result
+        (λ a. a ≡ (opposite (as_literal (apply quantified.now.predicate.now (eta (the_type quantified.now.ty.now) (constant (witness k)))))
+        ∷ []) ∷ []) }
 {
     let holds = witness_literal(alloc, k, quantified.ty, quantified.predicate)?;
     Ok(one(alloc, holds.opposite())?)
@@ -329,7 +331,8 @@ fn chosen_literal(alloc: Global, ty: &Ty, f: &Nf) -> Result<Lit, AllocError>
 /// That a predicate holds nowhere, or that it holds of what is chosen by it.
 fn nowhere_or_chosen(alloc: Global, ty: &Ty, f: &Nf) -> Result<Alternatives, AllocError>
     requires { IsPredicateOn (the_type ty.now) f.now }
-    ensures { IfOk result (λ a. a ≡ (as_literal (nowhere (the_type ty.now) f.now) ∷ []) ∷ (as_literal (apply f.now (chosen (the_type ty.now) f.now)) ∷ []) ∷ []) }
+    ensures { IfOk result (λ a. a ≡ (as_literal (nowhere (the_type ty.now) f.now) ∷ [])
+        ∷ (as_literal (apply f.now (chosen (the_type ty.now) f.now)) ∷ []) ∷ []) }
 {
     let none = nowhere_literal(alloc, ty, f)?;
     let some = chosen_literal(alloc, ty, f)?;
@@ -344,7 +347,8 @@ pub fn cho_instance(
     f: &Nf,
 ) -> Result<Option<Alternatives>, AllocError>
     requires { (a : SimpleType) × IsCanonical (the_scope sig.now types.now) [] (predicate a) f.now }
-    ensures { IfOk result (λ a. (rows : List Row) → FindsInstance (the_scope sig.now types.now) rows branch.now (WithPredicate Cho f.now) a) }
+    ensures { IfOk result (λ a. (rows : List Row) → FindsInstance (the_scope sig.now types.now) rows branch.now (WithPredicate Cho f.now)
+        a) }
 {
     match type_of_closed(alloc, sig, types, f)? {
         Some(Ty::Arrow(a, _)) => Ok(Some(nowhere_or_chosen(alloc, &a, f)?)),

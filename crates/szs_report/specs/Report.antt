@@ -162,8 +162,7 @@ report_of name (ModeAt line why) =
 report_of name (ScheduleAt line why) =
     headed_report (codes "% SZS status InputError for ") name (codes "% schedule ") (line_why (decimal line) (schedule_word why))
 report_of name Words =
-    codes "% usage: satallax [--mode FILE] [--check FILE] [--demo N] [--models K] [--schedule FILE] [--tree N] [--strict FILE] [--same]
-        PROBLEM\n"
+    codes "% usage: satallax [--mode FILE] [--check FILE] [--demo N] [--models K] [--schedule FILE] [--tree N] [--strict FILE] [--same] PROBLEM\n"
 report_of name (TooLong file) = headed_report (codes "% SZS status InputError for ") name (codes "% too long ") (file_name file)
 report_of name (ReadFault file) = headed_report (codes "% SZS status InputError for ") name (codes "% read fault ") (file_name file)
 report_of name Memory = headed_report (codes "% SZS status ResourceOut for ") name (codes "% memory") []

@@ -159,7 +159,8 @@ pub fn model_text(
     values: &Values,
 ) -> Result<Bytes, AllocError>
     requires { length values.now ≡ length (symbols_with (the_scope sig.now []) choosers.now) }
-    ensures { IfOk result (λ text. text ≡ model_text (names_of sig.now.bases sig.now.consts) (symbols_with (the_scope sig.now []) choosers.now) values.now) }
+    ensures { IfOk result (λ text. text ≡ model_text (names_of sig.now.bases sig.now.consts)
+        (symbols_with (the_scope sig.now []) choosers.now) values.now) }
 {
     let mut sink = GrowSink::new(alloc);
     for i in 0..values.len() {

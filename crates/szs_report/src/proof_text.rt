@@ -43,7 +43,8 @@ impl ProofText {
     ) -> Result<ProofText, AllocError>
         requires places { ArePlaces (names_of sig.now.bases sig.now.consts) taken.now }
         requires named { IsNamed (names_of sig.now.bases sig.now.consts) refutation }
-        ensures { IfOk result (λ text. text ≡ as_bytes (text_lines (named_refutation (names_of sig.now.bases sig.now.consts) taken.now refutation))) }
+        ensures { IfOk result
+            (λ text. text ≡ as_bytes (text_lines (named_refutation (names_of sig.now.bases sig.now.consts) taken.now refutation))) }
     {
         Ok(ProofText {
             sig: sig.try_clone(alloc)?,

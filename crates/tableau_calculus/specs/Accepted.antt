@@ -91,8 +91,8 @@ LineFails scope rows earlier line Principal =
 LineFails scope rows earlier line ChildWrong =
     IsTypedLine scope line
     × ((alternatives : List (List Literal))
-            × IsInstance scope rows line.branch line.rule alternatives
-            × (AreChildren earlier line.branch alternatives line.children → ⊥))
+    × IsInstance scope rows line.branch line.rule alternatives
+    × (AreChildren earlier line.branch alternatives line.children → ⊥))
 LineFails scope rows earlier line why = ⊥
 
 -- The first failure of a refutation. Places count the rows from 0 and then the lines, and the place behind them all stands for a line

@@ -18,7 +18,8 @@ with_witnesses m values =
       name_values = m.name_values;
       witness_values = slice_index values;
       choices = m.choices;
-      descriptions = m.descriptions }
+      descriptions = m.descriptions;
+    }
 
 -- The values of the witnesses of further rows behind those that are there: each is the least one at which the row's predicate is 0, or
 -- 0. The scope has the witnesses of all rows.

@@ -22,7 +22,8 @@ use stt_core::{Problem, Signature};
 /// A model that meets a typed problem meets the problem's start, whose literals are typed and name no witness.
 pub fn start_keeps_models(problem: &Problem)
     requires { IsTyped problem.now }
-    ensures meets { (m : Model) → IsModel (scope_of problem.now.declared) m → MeetsProblem problem.now m → MeetsBranch (scope_of problem.now.declared) m (start problem.now) }
+    ensures meets { (m : Model) → IsModel (scope_of problem.now.declared) m → MeetsProblem problem.now m
+        → MeetsBranch (scope_of problem.now.declared) m (start problem.now) }
     ensures typed { IsBranch (scope_of problem.now.declared) (start problem.now) }
     ensures unnamed { NoneNamesWitness (start problem.now) }
 {}
@@ -31,8 +32,10 @@ pub fn start_keeps_models(problem: &Problem)
 /// last line closes it.
 pub fn soundness_law(sig: &Signature, start: &Lits, refutation: &Refutation)
     requires { NoneNamesWitness start.now }
-    ensures no_model { IsAccepted (the_scope sig.now []) start.now refutation.now → (m : Model) → IsModel (the_scope sig.now []) m → MeetsBranch (the_scope sig.now []) m start.now → ⊥ }
-    ensures closed { IsAccepted (the_scope sig.now []) start.now refutation.now → Closes (the_scope sig.now []) refutation.now.witnesses (tableau_of refutation.now) start.now }
+    ensures no_model { IsAccepted (the_scope sig.now []) start.now refutation.now → (m : Model) → IsModel (the_scope sig.now []) m
+        → MeetsBranch (the_scope sig.now []) m start.now → ⊥ }
+    ensures closed { IsAccepted (the_scope sig.now []) start.now refutation.now → Closes (the_scope sig.now []) refutation.now.witnesses
+        (tableau_of refutation.now) start.now }
 {}
 
 /// Every model of a signature extends along a witness table: the value of a witness is the least at which its predicate doesn't hold,

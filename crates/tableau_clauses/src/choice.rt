@@ -87,7 +87,8 @@ fn add_choices(
     alternatives: &[LitList],
     found: &mut Vec<Clause>,
 ) -> Result<(), AllocError>
-    ensures found { OnOk result (found.new.items ≡ found.old.items ++ clauses_from principals.now (choices_after chosen.old.items alternatives.now)) }
+    ensures found { OnOk result (found.new.items ≡ found.old.items ++ clauses_from principals.now
+        (choices_after chosen.old.items alternatives.now)) }
     ensures chosen { OnOk result (chosen.new.items ≡ chosen.old.items) }
 {
     match alternatives.split_first() {
@@ -113,7 +114,8 @@ fn add_each(
     others: &[LitList],
     found: &mut Vec<Clause>,
 ) -> Result<(), AllocError>
-    ensures found { OnOk result (found.new.items ≡ found.old.items ++ clauses_from principals.now (flat_map (λ l. choices_after (chosen.old.items ++ l ∷ []) others.now) lits.now)) }
+    ensures found { OnOk result (found.new.items ≡ found.old.items ++ clauses_from principals.now
+        (flat_map (λ l. choices_after (chosen.old.items ++ l ∷ []) others.now) lits.now)) }
     ensures chosen { OnOk result (chosen.new.items ≡ chosen.old.items) }
 {
     match lits.split_first() {

@@ -8,5 +8,6 @@ ghost use Rattle.search_spec.specs.Numbered.{numbers};
 
 /// No clause of an instance holds a variable twice, so a solver takes it.
 pub fn clauses_hold_no_variable_twice()
-    ensures { (principals : List SatLit) (alternatives : List (List SatLit)) → Each HoldsNoVariableTwice (instance_clauses numbers principals alternatives) }
+    ensures { (principals : List SatLit) (alternatives : List (List SatLit)) → Each HoldsNoVariableTwice
+        (instance_clauses numbers principals alternatives) }
 {}

@@ -102,7 +102,8 @@ impl StepTable {
     /// Adds a start unit: false where it is there.
     pub fn start(&mut self, lit: SatLit) -> Result<bool, AllocError>
         ensures clauses { OnOk result (the_clauses self.new ≡ with_clauses numbers (the_clauses self.old) ((lit ∷ []) ∷ [])) }
-        ensures origins { IfOk result (λ is_new. the_origins self.new ≡ the_origins self.old ++ replicate (length (the_clauses self.new) - length (the_clauses self.old)) Start) }
+        ensures origins { IfOk result (λ is_new. the_origins self.new ≡ the_origins self.old ++ replicate
+            (length (the_clauses self.new) - length (the_clauses self.old)) Start) }
         ensures instances { the_instances self.new ≡ the_instances self.old }
         ensures fresh { IfOk result (λ is_new. is_new ≡ not (list_any (same_clause numbers (lit ∷ [])) (the_clauses self.old))) }
         ensures err { OnErr result (self.new ≡ self.old) }
@@ -114,8 +115,10 @@ impl StepTable {
 
     /// Keeps the instance, and adds those of its clauses that aren't there yet, in their order.
     pub fn add(&mut self, instance: Instance) -> Result<NewClauses, AllocError>
-        ensures clauses { OnOk result (the_clauses self.new ≡ with_clauses numbers (the_clauses self.old) (instance_clauses numbers instance.principals instance.alternatives)) }
-        ensures origins { IfOk result (λ new. the_origins self.new ≡ the_origins self.old ++ replicate (new.end - new.start) (From (length (the_instances self.old)))) }
+        ensures clauses { OnOk result (the_clauses self.new ≡ with_clauses numbers (the_clauses self.old)
+            (instance_clauses numbers instance.principals instance.alternatives)) }
+        ensures origins { IfOk result (λ new. the_origins self.new ≡ the_origins self.old ++ replicate (new.end - new.start)
+            (From (length (the_instances self.old)))) }
         ensures instances { OnOk result (the_instances self.new ≡ the_instances self.old ++ instance ∷ []) }
         ensures start { IfOk result (λ new. new.start ≡ length (the_clauses self.old)) }
         ensures end { IfOk result (λ new. new.end ≡ length (the_clauses self.new)) }

@@ -29,7 +29,7 @@ pub record IsInstanceOver (b : Content) (atoms : List ℕ) (rows : List Row) (i 
   pub alternatives : All (IsOver (length atoms)) i.alternatives
   pub fits :
       Rule (with_rows (content_scope b) rows) rows (use_of b.terms atoms i.by) (literals_of (atoms_at b.terms atoms) i.principals)
-          (map (literals_of (atoms_at b.terms atoms)) i.alternatives)
+      (map (literals_of (atoms_at b.terms atoms)) i.alternatives)
 
 -- the last result of the log is the empty clause
 pub record EndsEmpty (log : List LogEntry) : Type 0 where

@@ -69,7 +69,8 @@ fn literals_of<'a>(
 /// The literal of a start unit.
 fn unit(steps: &StepTable, n: usize) -> Result<SatLit, AllocError>
     requires { IsUnitNumber steps.now n }
-    ensures { IfOk result (λ l. (terms : List Lambda) (atoms : List ℕ) → l ≡ unit_of_start (slice_get (the_sources terms atoms steps.now) n)) }
+    ensures { IfOk result (λ l. (terms : List Lambda) (atoms : List ℕ) → l ≡ unit_of_start
+        (slice_get (the_sources terms atoms steps.now) n)) }
 {
     let clause = steps.clause(n)?;
     Ok(clause.as_slice()[0])
@@ -123,7 +124,8 @@ impl Arena {
         ensures extends { OnOk result (ExtendsDrafts self.old.drafts.items self.new.drafts.items) }
         ensures clauses { OnOk result (length self.new.of_clause.items ≡ length self.old.of_clause.items) }
         ensures results { OnOk result (self.new.of_result.items ≡ self.old.of_result.items) }
-        ensures stands { IfOk result (λ s. (c : List SatLit) → premise_clause (the_clauses steps.now) (results log.now) premise ≡ Some c → StandsFor steps.now log.now self.new.drafts.items (premise_place premise) c s) }
+        ensures stands { IfOk result (λ s. (c : List SatLit) → premise_clause (the_clauses steps.now) (results log.now) premise ≡ Some c
+            → StandsFor steps.now log.now self.new.drafts.items (premise_place premise) c s) }
     {
         match premise {
             Premise::Result(n) => Ok(self.of_result[n]),
@@ -147,7 +149,9 @@ impl Arena {
     ) -> Result<Standing, AllocError>
         requires first { IsUnitNumber steps.now first }
         requires second { IsUnitNumber steps.now second }
-        ensures drafts { IfOk result (λ s. (l m : SatLit) × (self.new.drafts.items ≡ self.old.drafts.items ++ CloseDraft at l m ∷ []) × ((terms : List Lambda) (atoms : List ℕ) → (l ≡ unit_of_start (slice_get (the_sources terms atoms steps.now) first)) × (m ≡ unit_of_start (slice_get (the_sources terms atoms steps.now) second)))) }
+        ensures drafts { IfOk result (λ s. (l m : SatLit) × (self.new.drafts.items ≡ self.old.drafts.items ++ CloseDraft at l m ∷ [])
+            × ((terms : List Lambda) (atoms : List ℕ) → (l ≡ unit_of_start (slice_get (the_sources terms atoms steps.now) first))
+            × (m ≡ unit_of_start (slice_get (the_sources terms atoms steps.now) second)))) }
         ensures of_clause { self.new.of_clause.items ≡ self.old.of_clause.items }
         ensures of_result { self.new.of_result.items ≡ self.old.of_result.items }
         ensures last { IfOk result (λ s. s ≡ Line (length self.old.drafts.items)) }
@@ -174,7 +178,8 @@ impl Arena {
         ensures extends { OnOk result (ExtendsDrafts self.old.drafts.items self.new.drafts.items) }
         ensures of_clause { OnOk result (self.new.of_clause.items ≡ self.old.of_clause.items) }
         ensures of_result { OnOk result (self.new.of_result.items ≡ self.old.of_result.items) }
-        ensures joined { IfOk result (λ s. IsJoined steps.now self.old.drafts.items self.new.drafts.items (place_after_step at) var positive negative s) }
+        ensures joined { IfOk result (λ s. IsJoined steps.now self.old.drafts.items self.new.drafts.items (place_after_step at) var positive
+            negative s) }
     {
         match (positive, negative) {
             (Standing::Start(m), Standing::Start(n)) => {
@@ -255,7 +260,8 @@ impl Arena {
         ensures clauses { OnOk result (length self.new.of_clause.items ≡ length self.old.of_clause.items) }
         ensures results { OnOk result (self.new.of_result.items ≡ self.old.of_result.items) }
         ensures empty { OnOk result (resolver.new ≡ []) }
-        ensures stands { IfOk result (λ s. (entry : LogEntry) → slice_get log.now n ≡ Some entry → StandsFor steps.now log.now self.new.drafts.items (at_result n) entry.result s) }
+        ensures stands { IfOk result (λ s. (entry : LogEntry) → slice_get log.now n ≡ Some entry
+            → StandsFor steps.now log.now self.new.drafts.items (at_result n) entry.result s) }
     {
         let chain = log.chain(n);
         let mut standing = self.premise(steps, log, chain.first)?;

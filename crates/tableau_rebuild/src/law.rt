@@ -25,7 +25,8 @@ pub fn tables_are_given(
     requires rows { AreRows bank.now witnesses.now }
     requires atoms { All (IsAtom bank.now) lits.now }
     requires instances { All (IsInstanceOver bank.now lits.now (rows_of bank.now.terms witnesses.now)) (the_instances steps.now) }
-    ensures { IsGiven (content_scope bank.now) (unit_literals (atoms_at bank.now.terms lits.now) steps.now.0) (the_input bank.now lits.now steps.now log.now witnesses.now) }
+    ensures { IsGiven (content_scope bank.now) (unit_literals (atoms_at bank.now.terms lits.now) steps.now.0)
+        (the_input bank.now lits.now steps.now log.now witnesses.now) }
 {
     steps.clauses_come_from_origins();
 }

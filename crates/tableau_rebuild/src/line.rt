@@ -126,7 +126,8 @@ fn instance_line(
     requires literals { literals ≡ literals_of (atoms_at bank.now.terms atoms.now) branch.now }
     requires made { IsMadePool bank.now.terms atoms.now pool.old }
     ensures made { OnOk result (IsMadePool bank.now.terms atoms.now pool.new) }
-    ensures line { IfOk result (λ line. line ≡ instance_by (atoms_at bank.now.terms atoms.now) branch.now (the_instance bank.now.terms atoms.now instance.now)) }
+    ensures line { IfOk result (λ line. line ≡ instance_by (atoms_at bank.now.terms atoms.now) branch.now
+        (the_instance bank.now.terms atoms.now instance.now)) }
 {
     let places = places_of(alloc, branch, &instance.principals)?;
     let rule = rule_of(bank, atoms, &instance.by, &places, pool)?;

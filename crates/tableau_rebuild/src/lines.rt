@@ -92,9 +92,14 @@ impl Writing {
         requires walked { map (tree_at (trees drafts.now)) order.now ≡ walked [] (tree_at (trees drafts.now) last) }
         requires inside { (k i : ℕ) → slice_get order.now k ≡ Some i → i < length drafts.now }
         requires numbers { AreNumbers order.now numbers.now }
-        requires makeable { (k i : ℕ) (d : Draft) → slice_get order.now k ≡ Some i → slice_get drafts.now i ≡ Some d → IsMakeable bank.now atoms.now steps.now numbers.now d }
-        requires numbered { (k i : ℕ) → slice_get order.now k ≡ Some i → IsOver (length atoms.now) (branch (the_tree bank.now.terms atoms.now steps.now drafts.now i)) }
-        ensures lines { OnOk result (self.new.written.lines ≡ map (λ i. line_in (atoms_at bank.now.terms atoms.now) (map (the_tree bank.now.terms atoms.now steps.now drafts.now) order.now) (the_tree bank.now.terms atoms.now steps.now drafts.now i)) order.now) }
+        requires makeable { (k i : ℕ) (d : Draft) → slice_get order.now k ≡ Some i → slice_get drafts.now i ≡ Some d
+            → IsMakeable bank.now atoms.now steps.now numbers.now d }
+        requires numbered { (k i : ℕ) → slice_get order.now k ≡ Some i → IsOver (length atoms.now)
+            (branch (the_tree bank.now.terms atoms.now steps.now drafts.now i)) }
+        ensures lines { OnOk result
+            (self.new.written.lines ≡ map (λ i. line_in (atoms_at bank.now.terms atoms.now)
+            (map (the_tree bank.now.terms atoms.now steps.now drafts.now) order.now)
+            (the_tree bank.now.terms atoms.now steps.now drafts.now i)) order.now) }
         ensures in_range { OnOk result (AllByRecursion HasNumbers self.new.written.lines) }
         ensures count { OnOk result (length self.new.written.lines ≤ 2 ^ 64) }
         ensures rows { OnOk result (self.new.written.rows ≡ rows_for_lines (rows_of bank.now.terms witnesses.now) self.new.written.lines) }
@@ -149,9 +154,14 @@ pub(crate) fn write_lines(
     requires walked { map (tree_at (trees drafts.now)) order.now ≡ walked [] (tree_at (trees drafts.now) last) }
     requires inside { (k i : ℕ) → slice_get order.now k ≡ Some i → i < length drafts.now }
     requires numbers { AreNumbers order.now numbers.now }
-    requires makeable { (k i : ℕ) (d : Draft) → slice_get order.now k ≡ Some i → slice_get drafts.now i ≡ Some d → IsMakeable bank.now atoms.now steps.now numbers.now d }
-    requires numbered { (k i : ℕ) → slice_get order.now k ≡ Some i → IsOver (length atoms.now) (branch (the_tree bank.now.terms atoms.now steps.now drafts.now i)) }
-    ensures lines { IfOk result (λ written. written.lines ≡ map (λ i. line_in (atoms_at bank.now.terms atoms.now) (map (the_tree bank.now.terms atoms.now steps.now drafts.now) order.now) (the_tree bank.now.terms atoms.now steps.now drafts.now i)) order.now) }
+    requires makeable { (k i : ℕ) (d : Draft) → slice_get order.now k ≡ Some i → slice_get drafts.now i ≡ Some d
+        → IsMakeable bank.now atoms.now steps.now numbers.now d }
+    requires numbered { (k i : ℕ) → slice_get order.now k ≡ Some i → IsOver (length atoms.now)
+        (branch (the_tree bank.now.terms atoms.now steps.now drafts.now i)) }
+    ensures lines { IfOk result
+        (λ written. written.lines ≡ map (λ i. line_in (atoms_at bank.now.terms atoms.now)
+        (map (the_tree bank.now.terms atoms.now steps.now drafts.now) order.now) (the_tree bank.now.terms atoms.now steps.now drafts.now i))
+        order.now) }
     ensures in_range { IfOk result (λ written. AllByRecursion HasNumbers written.lines) }
     ensures count { IfOk result (λ written. length written.lines ≤ 2 ^ 64) }
     ensures rows { IfOk result (λ written. written.rows ≡ rows_for_lines (rows_of bank.now.terms witnesses.now) written.lines) }

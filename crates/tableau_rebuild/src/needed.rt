@@ -67,7 +67,8 @@ pub fn rows_for_branch(bank: &Bank, atoms: &LitTable, branch: &[SatLit]) -> usiz
 fn row_of(bank: &Bank, witnesses: &Witnesses, predicate: Id) -> usize
     requires within { predicate < length bank.now.terms }
     requires rows { AreRows bank.now witnesses.now }
-    ensures place { result ≡ position_or_len (λ r. same_term (term_at bank.now.terms predicate) r.predicate) (rows_of bank.now.terms witnesses.now) }
+    ensures place { result ≡ position_or_len (λ r. same_term (term_at bank.now.terms predicate) r.predicate)
+        (rows_of bank.now.terms witnesses.now) }
     ensures small { result < 2 ^ 32 }
 {
     equal_ids_for_equal_terms(bank);
@@ -127,7 +128,8 @@ fn rows_up_to_principal(
     requires atoms { All (IsAtom bank.now) atoms.now }
     requires numbered { IsOver (length atoms.now) branch.now }
     requires rows { AreRows bank.now witnesses.now }
-    ensures { result ≡ rows_up_to_principal (rows_of bank.now.terms witnesses.now) (slice_get (literals_of (atoms_at bank.now.terms atoms.now) branch.now) place) }
+    ensures { result ≡ rows_up_to_principal (rows_of bank.now.terms witnesses.now)
+        (slice_get (literals_of (atoms_at bank.now.terms atoms.now) branch.now) place) }
 {
     if place < branch.len() {
         rows_up_to(bank, witnesses, atoms.formula_of(branch[place]))
@@ -148,7 +150,8 @@ fn rows_for_one(
     requires atoms { All (IsAtom bank.now) atoms.now }
     requires numbered { IsOver (length atoms.now) branch.now }
     requires rows { AreRows bank.now witnesses.now }
-    ensures { result ≡ rows_for_rule (rows_of bank.now.terms witnesses.now) (literals_of (atoms_at bank.now.terms atoms.now) branch.now) (AtOne kind place) }
+    ensures { result ≡ rows_for_rule (rows_of bank.now.terms witnesses.now) (literals_of (atoms_at bank.now.terms atoms.now) branch.now)
+        (AtOne kind place) }
 {
     match kind {
         OnePlace::AllNeg => rows_up_to_principal(bank, atoms, witnesses, branch, place),
@@ -169,7 +172,8 @@ fn rows_for_use(
     requires numbered { IsOver (length atoms.now) branch.now }
     requires rows { AreRows bank.now witnesses.now }
     requires good { IsGoodUse bank.now atoms.now by.now }
-    ensures { (places : List ℕ) → first_in places ≡ place → result ≡ rows_for_rule (rows_of bank.now.terms witnesses.now) (literals_of (atoms_at bank.now.terms atoms.now) branch.now) (rule_at_places (use_of bank.now.terms atoms.now by.now) places) }
+    ensures { (places : List ℕ) → first_in places ≡ place → result ≡ rows_for_rule (rows_of bank.now.terms witnesses.now)
+        (literals_of (atoms_at bank.now.terms atoms.now) branch.now) (rule_at_places (use_of bank.now.terms atoms.now by.now) places) }
 {
     match by {
         RuleUse::AtOne(kind, _) => rows_for_one(bank, atoms, witnesses, *kind, branch, place),
@@ -203,7 +207,8 @@ pub fn rows_for_instance(
     requires numbered { IsOver (length atoms.now) branch.now }
     requires rows { AreRows bank.now witnesses.now }
     requires good { IsGoodUse bank.now atoms.now instance.now.by }
-    ensures { result ≡ rows_for_rule (rows_of bank.now.terms witnesses.now) (literals_of (atoms_at bank.now.terms atoms.now) branch.now) (rule_at_places (the_instance bank.now.terms atoms.now instance.now).rule (map (place_in branch.now) instance.now.principals)) }
+    ensures { result ≡ rows_for_rule (rows_of bank.now.terms witnesses.now) (literals_of (atoms_at bank.now.terms atoms.now) branch.now)
+        (rule_at_places (the_instance bank.now.terms atoms.now instance.now).rule (map (place_in branch.now) instance.now.principals)) }
 {
     let place = first_place(branch, &instance.principals);
     rows_for_use(bank, atoms, witnesses, &instance.by, branch, place)
@@ -222,7 +227,8 @@ pub(crate) fn rows_for_line(
     requires numbered { IsOver (length atoms.now) branch.now }
     requires rows { AreRows bank.now witnesses.now }
     requires parts { HasParts bank.now atoms.now steps.now draft }
-    ensures { IfOk result (λ n. (numbers : List ℕ) (line : Line) → IsLineBy bank.now atoms.now steps.now numbers branch.now draft line → n ≡ max (rows_for_all line.branch) (rows_for_rule (rows_of bank.now.terms witnesses.now) line.branch line.rule)) }
+    ensures { IfOk result (λ n. (numbers : List ℕ) (line : Line) → IsLineBy bank.now atoms.now steps.now numbers branch.now draft line
+        → n ≡ max (rows_for_all line.branch) (rows_for_rule (rows_of bank.now.terms witnesses.now) line.branch line.rule)) }
 {
     let rows = rows_for_branch(bank, atoms, branch);
     match draft {

@@ -79,7 +79,8 @@ impl Pool {
         requires within { literal.var.0 < length atoms.now }
         requires made { IsMadePool bank.now.terms atoms.now self.old }
         ensures made { OnOk result (IsMadePool bank.now.terms atoms.now self.new) }
-        ensures place { IfOk result (λ place. slice_get self.new.lits place ≡ Some (literal_at (atoms_at bank.now.terms atoms.now) literal)) }
+        ensures place { IfOk result (λ place. slice_get self.new.lits place ≡ Some
+            (literal_at (atoms_at bank.now.terms atoms.now) literal)) }
     {
         let (place, is_new) = self.numbers.insert_full(literal)?;
         if is_new {

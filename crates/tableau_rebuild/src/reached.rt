@@ -101,7 +101,8 @@ impl Reached {
         requires within { n < length log.now }
         requires clauses { length self.old.clauses.items ≡ length (the_clauses steps.now) }
         requires results { length self.old.results.items ≡ length log.now }
-        ensures marks { (p : Place) → flagged self.new p ≡ (flagged self.old p || (flagged self.old (at_result n) && is_premise_in log.now n p)) }
+        ensures marks { (p : Place) → flagged self.new p ≡ (flagged self.old p ||
+            (flagged self.old (at_result n) && is_premise_in log.now n p)) }
         ensures clauses { length self.new.clauses.items ≡ length self.old.clauses.items }
         ensures results { length self.new.results.items ≡ length self.old.results.items }
     {
@@ -137,7 +138,8 @@ fn add_instance(
 ) -> Result<(), AllocError>
     requires count { length clauses.now ≡ length (the_clauses steps.now) }
     requires within { n < length clauses.now }
-    ensures { OnOk result ((k : ℕ) → Contains numbers.new.items k ↔ (Contains numbers.old.items k ⊎ IsFlaggedOrigin steps.now clauses.now n k)) }
+    ensures { OnOk result
+        ((k : ℕ) → Contains numbers.new.items k ↔ (Contains numbers.old.items k ⊎ IsFlaggedOrigin steps.now clauses.now n k)) }
 {
     if !clauses[n] {
         return Ok(());

@@ -51,8 +51,11 @@ fn refutation_of(
     requires right { AreDrafts drafts.now }
     requires last { last < length drafts.now }
     requires founded { IsFounded bank.now atoms.now steps.now drafts.now last }
-    ensures lines { IfOk result (λ refutation. refutation.lines ≡ lines_from (atoms_at bank.now.terms atoms.now) (the_tree bank.now.terms atoms.now steps.now drafts.now last)) }
-    ensures rows { IfOk result (λ refutation. refutation.witnesses ≡ take (rows_for_lines (rows_of bank.now.terms witnesses.now) refutation.lines) (rows_of bank.now.terms witnesses.now)) }
+    ensures lines { IfOk result (λ refutation. refutation.lines ≡ lines_from (atoms_at bank.now.terms atoms.now)
+        (the_tree bank.now.terms atoms.now steps.now drafts.now last)) }
+    ensures rows { IfOk result
+        (λ refutation. refutation.witnesses ≡ take (rows_for_lines (rows_of bank.now.terms witnesses.now) refutation.lines)
+        (rows_of bank.now.terms witnesses.now)) }
     ensures in_range { IfOk result AreNumbersInRange }
 {
     let order = walk_from(alloc, drafts, last)?;
@@ -117,10 +120,14 @@ pub fn rebuild_shared(
     requires log { IsLogOver (the_clauses steps.now) log.now }
     requires closed { EndsEmpty log.now }
     ensures rebuilt { IfOk result (λ refutation. IsRebuilt (the_input bank.now lits.now steps.now log.now witnesses.now) refutation) }
-    ensures accepted { IfOk result (λ refutation. IsAccepted (content_scope bank.now) (unit_literals (atoms_at bank.now.terms lits.now) steps.now.0) refutation) }
-    ensures closed { IfOk result (λ refutation. Closes (content_scope bank.now) refutation.witnesses (tableau_of refutation) (unit_literals (atoms_at bank.now.terms lits.now) steps.now.0)) }
+    ensures accepted { IfOk result (λ refutation. IsAccepted (content_scope bank.now)
+        (unit_literals (atoms_at bank.now.terms lits.now) steps.now.0) refutation) }
+    ensures closed { IfOk result (λ refutation. Closes (content_scope bank.now) refutation.witnesses (tableau_of refutation)
+        (unit_literals (atoms_at bank.now.terms lits.now) steps.now.0)) }
     ensures reached { IfOk result (λ refutation. IsEachReached refutation.lines) }
-    ensures from_search { IfOk result (λ refutation. (l : Line) → Contains refutation.lines l → IsFromSearch (unit_literals (atoms_at bank.now.terms lits.now) steps.now.0) (the_input bank.now lits.now steps.now log.now witnesses.now) l) }
+    ensures from_search { IfOk result (λ refutation. (l : Line) → Contains refutation.lines l
+        → IsFromSearch (unit_literals (atoms_at bank.now.terms lits.now) steps.now.0)
+        (the_input bank.now lits.now steps.now log.now witnesses.now) l) }
     ensures few { IfOk result (λ refutation. AreFew log.now refutation.lines) }
     ensures in_range { IfOk result AreNumbersInRange }
 {
@@ -146,10 +153,14 @@ pub fn rebuild(
     requires log { IsLogOver (the_clauses steps.now) log.now }
     requires closed { EndsEmpty log.now }
     ensures rebuilt { IfOk result (λ refutation. IsRebuilt (the_input bank.now lits.now steps.now log.now witnesses.now) refutation) }
-    ensures accepted { IfOk result (λ refutation. IsAccepted (content_scope bank.now) (unit_literals (atoms_at bank.now.terms lits.now) steps.now.0) refutation) }
-    ensures closed { IfOk result (λ refutation. Closes (content_scope bank.now) refutation.witnesses (tableau_of refutation) (unit_literals (atoms_at bank.now.terms lits.now) steps.now.0)) }
+    ensures accepted { IfOk result (λ refutation. IsAccepted (content_scope bank.now)
+        (unit_literals (atoms_at bank.now.terms lits.now) steps.now.0) refutation) }
+    ensures closed { IfOk result (λ refutation. Closes (content_scope bank.now) refutation.witnesses (tableau_of refutation)
+        (unit_literals (atoms_at bank.now.terms lits.now) steps.now.0)) }
     ensures reached { IfOk result (λ refutation. IsEachReached refutation.lines) }
-    ensures from_search { IfOk result (λ refutation. (l : Line) → Contains refutation.lines l → IsFromSearch (unit_literals (atoms_at bank.now.terms lits.now) steps.now.0) (the_input bank.now lits.now steps.now log.now witnesses.now) l) }
+    ensures from_search { IfOk result (λ refutation. (l : Line) → Contains refutation.lines l
+        → IsFromSearch (unit_literals (atoms_at bank.now.terms lits.now) steps.now.0)
+        (the_input bank.now lits.now steps.now log.now witnesses.now) l) }
     ensures few { IfOk result (λ refutation. AreFew log.now refutation.lines) }
     ensures in_range { IfOk result AreNumbersInRange }
 {

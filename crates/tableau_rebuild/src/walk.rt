@@ -48,7 +48,8 @@ fn visit(
     requires last { last < length drafts.now }
     requires way { IsWalkUnderWay drafts.now last listed.now order.now (Visit i ∷ reverse tasks.old.items) }
     ensures way { OnOk result (IsWalkUnderWay drafts.now last listed.now order.now (reverse tasks.new.items)) }
-    ensures less { OnOk result (weight (trees drafts.now) (reverse tasks.new.items) < weight (trees drafts.now) (Visit i ∷ reverse tasks.old.items)) }
+    ensures less { OnOk result (weight (trees drafts.now) (reverse tasks.new.items) < weight (trees drafts.now)
+        (Visit i ∷ reverse tasks.old.items)) }
 {
     if !listed[i] {
         tasks.push(Task::Enter(i))?;

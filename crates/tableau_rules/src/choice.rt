@@ -52,7 +52,9 @@ fn holds_of_picked(
     requires operator { IsOperator (the_type ty.now) (the_head operator.now) }
     requires predicate { IsPredicate bank.old (the_type ty.now) f }
     requires right { IsRightNormaliser normal.old bank.old }
-    ensures term { IfOk result (λ id. HasTerm bank.new id (apply (term_at bank.old.terms f) (eta (the_type ty.now) (app (the_head operator.now) (term_at bank.old.terms f))))) }
+    ensures term { IfOk result
+        (λ id. HasTerm bank.new id
+        (apply (term_at bank.old.terms f) (eta (the_type ty.now) (app (the_head operator.now) (term_at bank.old.terms f))))) }
     ensures grows { Grows bank.old bank.new }
     ensures right { IsRightNormaliser normal.new bank.new }
 {
@@ -115,7 +117,8 @@ fn same_variables(
 ) -> Result<Id, AllocError>
     requires declared { is_declared (content_scope bank.old).bases (the_type ty.now) ≡ true }
     requires right { IsRightNormaliser normal.old bank.old }
-    ensures term { IfOk result (λ id. HasTerm bank.new id (eq (the_type ty.now) (eta (the_type ty.now) (bound 1)) (eta (the_type ty.now) (bound 0)))) }
+    ensures term { IfOk result
+        (λ id. HasTerm bank.new id (eq (the_type ty.now) (eta (the_type ty.now) (bound 1)) (eta (the_type ty.now) (bound 0)))) }
     ensures grows { Grows bank.old bank.new }
     ensures right { IsRightNormaliser normal.new bank.new }
 {
@@ -135,7 +138,10 @@ fn both_same(
 ) -> Result<Id, AllocError>
     requires predicate { IsPredicate bank.old (the_type ty.now) f }
     requires right { IsRightNormaliser normal.old bank.old }
-    ensures term { IfOk result (λ id. HasTerm bank.new id (imp (at_outer (the_type ty.now) (term_at bank.old.terms f)) (imp (at_inner (the_type ty.now) (term_at bank.old.terms f)) (eq (the_type ty.now) (eta (the_type ty.now) (bound 1)) (eta (the_type ty.now) (bound 0)))))) }
+    ensures term { IfOk result
+        (λ id. HasTerm bank.new id (imp (at_outer (the_type ty.now) (term_at bank.old.terms f))
+        (imp (at_inner (the_type ty.now) (term_at bank.old.terms f)) (eq (the_type ty.now) (eta (the_type ty.now) (bound 1))
+        (eta (the_type ty.now) (bound 0)))))) }
     ensures grows { Grows bank.old bank.new }
     ensures right { IsRightNormaliser normal.new bank.new }
 {

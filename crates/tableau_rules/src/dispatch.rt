@@ -161,7 +161,8 @@ fn witnessed_drafts(
     requires all { AreDeclaredIn bank.old witnesses.old }
     ensures drafted { IfOk result (DraftedBy bank.new lits.now (rows_of bank.new.terms witnesses.new) (AtOne AllNeg lit)) }
     ensures witnesses { IfOk result (WitnessesWhere bank.new lits.now (AtOne AllNeg lit) witnesses.old witnesses.new) }
-    ensures err { OnErr result ((witnesses.new ≡ witnesses.old) ⊎ AreWitnessesBy bank.new lits.now (AtOne AllNeg lit) witnesses.old witnesses.new) }
+    ensures err { OnErr result ((witnesses.new ≡ witnesses.old) ⊎ AreWitnessesBy bank.new lits.now (AtOne AllNeg lit) witnesses.old
+        witnesses.new) }
     ensures widens { Widens bank.old bank.new }
     ensures right { IsRightNormaliser normal.new bank.new }
     ensures rows { AreRows bank.new witnesses.new }

@@ -142,7 +142,8 @@ fn differs_from_both(
 ) -> Result<(Signed, Signed), AllocError>
     requires left { AreSides bank.old (the_type equation.now.ty) equation.now.left t }
     requires right { AreSides bank.old (the_type equation.now.ty) equation.now.right t }
-    ensures differ { IfOk result (λ ss. DifferFromBoth bank.old bank.new (the_type equation.now.ty) equation.now.left equation.now.right t ss.0 ss.1) }
+    ensures differ { IfOk result (λ ss. DifferFromBoth bank.old bank.new (the_type equation.now.ty) equation.now.left equation.now.right t
+        ss.0 ss.1) }
     ensures grows { Grows bank.old bank.new }
 {
     let first = equate(alloc, bank, &equation.ty, equation.left, t)?;

@@ -60,7 +60,9 @@ struct Functions {
 /// The formula that two functions agree everywhere.
 fn agreement_of(alloc: Global, bank: &mut Bank, f: &Functions) -> Result<Id, AllocError>
     requires { AreSides bank.old (arrow (the_type f.now.argument) (the_type f.now.outcome)) f.now.left f.now.right }
-    ensures term { IfOk result (λ id. HasTerm bank.new id (agreement (the_type f.now.argument) (the_type f.now.outcome) (term_at bank.old.terms f.now.left) (term_at bank.old.terms f.now.right))) }
+    ensures term { IfOk result
+        (λ id. HasTerm bank.new id (agreement (the_type f.now.argument) (the_type f.now.outcome) (term_at bank.old.terms f.now.left)
+        (term_at bank.old.terms f.now.right))) }
     ensures grows { Grows bank.old bank.new }
 {
     let left = at_new_variable(&*bank, f.left);

@@ -81,7 +81,8 @@ fn instance_of(
     ensures by { IfOk result (λ i. i.by ≡ by.now) }
     ensures principals { IfOk result (λ i. i.principals ≡ principals_of by.now) }
     ensures numbers { IfOk result (λ i. Each (Each (λ l. l.var.0 < length lits.new)) i.alternatives) }
-    ensures alternatives { IfOk result (λ i. map (map (bank_literal bank.now.terms lits.new)) i.alternatives ≡ alternatives_at bank.now drafts.now) }
+    ensures alternatives { IfOk result (λ i. map (map (bank_literal bank.now.terms lits.new)) i.alternatives ≡ alternatives_at bank.now
+        drafts.now) }
     ensures begins { Begins lits.old lits.new }
     ensures atoms { All (IsAtom bank.now) lits.new }
     ensures err { OnErr result (lits.new ≡ lits.old) }
@@ -115,8 +116,10 @@ pub fn make(
     ensures by { IfOk result (λ i. i.by ≡ by.now) }
     ensures principals { IfOk result (λ i. i.principals ≡ principals_of by.now) }
     ensures numbers { IfOk result (λ i. Each (Each (λ l. l.var.0 < length lits.new)) i.alternatives) }
-    ensures instance { IfOk result (λ i. IsInstanceBy bank.new lits.new (rows_of bank.new.terms witnesses.new) by.now (map (map (bank_literal bank.new.terms lits.new)) i.alternatives)) }
-    ensures not_this_rule { result ≡ Err NotThisRule → (rows : List Row) (alternatives : List (List Literal)) → IsInstanceBy bank.old lits.old rows by.now alternatives → ⊥ }
+    ensures instance { IfOk result (λ i. IsInstanceBy bank.new lits.new (rows_of bank.new.terms witnesses.new) by.now
+        (map (map (bank_literal bank.new.terms lits.new)) i.alternatives)) }
+    ensures not_this_rule { result ≡ Err NotThisRule → (rows : List Row) (alternatives : List (List Literal))
+        → IsInstanceBy bank.old lits.old rows by.now alternatives → ⊥ }
     ensures widens { Widens bank.old bank.new }
     ensures right { IsRightNormaliser normal.new bank.new }
     ensures begins { Begins lits.old lits.new }

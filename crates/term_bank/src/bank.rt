@@ -80,7 +80,8 @@ impl Bank {
 
     /// No term stands at two places. The length is asked for its clause that the keys differ.
     pub(crate) fn terms_differ(&self)
-        ensures { (i j : ℕ) → i < length self.now.terms → j < length self.now.terms → term_at self.now.terms i ≡ term_at self.now.terms j → i ≡ j }
+        ensures { (i j : ℕ) → i < length self.now.terms → j < length self.now.terms → term_at self.now.terms i ≡ term_at self.now.terms j
+            → i ≡ j }
     {
         let _len = self.nodes.len();
     }

@@ -31,7 +31,13 @@ impl Bank {
     pub fn add_witness(&mut self, ty: &Ty) -> Result<(), AllocError>
         requires declared { is_declared (length self.old.bases) (the_type ty.now) ≡ true }
         requires few { length self.old.witnesses < 2 ^ 32 - 1 }
-        ensures ok { OnOk result (self.new ≡ record { bases = self.old.bases; consts = self.old.consts; witnesses = self.old.witnesses ++ the_type ty.now ∷ []; terms = self.old.terms }) }
+        ensures ok { OnOk result
+            (self.new ≡ record {
+              bases = self.old.bases;
+              consts = self.old.consts;
+              witnesses = self.old.witnesses ++ the_type ty.now ∷ [];
+              terms = self.old.terms;
+            }) }
         ensures err { OnErr result (self.new ≡ self.old) }
     {
         let ty = ty.try_clone(self.alloc)?;

@@ -30,7 +30,8 @@ impl Bank {
     /// The base type of a head with all its arguments.
     fn spine_type(&self, ctx: &Context, head: &Head) -> Result<Ty, AllocError>
         requires { IsSome (type_of (content_scope self.now) (the_context ctx.now) (the_head head.now)) }
-        ensures { IfOk result (λ ty. Some (the_type ty) ≡ option_map (λ a. base (target a)) (type_of (content_scope self.now) (the_context ctx.now) (the_head head.now))) }
+        ensures { IfOk result (λ ty. Some (the_type ty) ≡ option_map (λ a. base (target a))
+            (type_of (content_scope self.now) (the_context ctx.now) (the_head head.now))) }
     {
         match self.head_type(ctx, head)? {
             Some(ty) => Ok(Ty::Base(target_of(&ty))),

@@ -75,7 +75,8 @@ impl Tables {
     /// Whether the number is that of a closed formula.
     fn is_formula(&self, id: Id) -> Result<bool, AllocError>
         ensures within { IfOk result (λ is. IsTrue is → id < length self.now.bank.terms) }
-        ensures formula { IfOk result (λ is. IsTrue is → IsCanonical (content_scope self.now.bank) [] formula (term_at self.now.bank.terms id)) }
+        ensures formula { IfOk result (λ is. IsTrue is → IsCanonical (content_scope self.now.bank) [] formula
+            (term_at self.now.bank.terms id)) }
     {
         if id as usize >= self.bank.len() {
             return Ok(false);

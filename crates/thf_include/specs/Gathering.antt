@@ -132,7 +132,7 @@ mutual
         → StatementsEnd texts chain file next (s ∷ later) opened (stopped why)
     goes_on :
         (chain opened others : List (List ℕ)) (file next : ℕ) (s : StatementTree) (later : List StatementTree) (front : List PlacedTree)
-            (ending : Ending)
+        (ending : Ending)
         → StatementEnds texts chain file next s opened (done front)
         → StatementsEnd texts chain file (next + length opened) later others ending
         → StatementsEnd texts chain file next (s ∷ later) (opened ++ others) (behind_statements front ending)

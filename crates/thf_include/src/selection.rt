@@ -22,7 +22,8 @@ pub fn keep_selected(
     included: Gathered,
     gathered: &mut Gathered,
 ) -> Result<(), GatherRefused>
-    ensures { SelectsAs (select file (the_selection (Some only.now)) (the_statements included)) (the_statements gathered.old) (the_statements gathered.new) result }
+    ensures { SelectsAs (select file (the_selection (Some only.now)) (the_statements included)) (the_statements gathered.old)
+        (the_statements gathered.new) result }
 {
     match first_missing(alloc, only, &included)? {
         Some(at) => Err(GatherRefused::NoSuchName { file, at }),
@@ -36,7 +37,8 @@ fn first_missing(
     only: &Selection,
     included: &Gathered,
 ) -> Result<Option<u32>, AllocError>
-    ensures { IfOk result (λ at. at ≡ option_map (λ s. s.at) (find (is_missing (the_statements included.now)) (map the_selected only.now))) }
+    ensures { IfOk result
+        (λ at. at ≡ option_map (λ s. s.at) (find (is_missing (the_statements included.now)) (map the_selected only.now))) }
 {
     let names = statement_names(alloc, included)?;
     for selected in only.as_slice() {
@@ -54,7 +56,8 @@ fn keep(
     included: Gathered,
     gathered: &mut Gathered,
 ) -> Result<(), AllocError>
-    ensures { OnOk result (the_statements gathered.new ≡ the_statements gathered.old ++ filter (is_selected (map the_selected only.now)) (the_statements included)) }
+    ensures { OnOk result (the_statements gathered.new ≡ the_statements gathered.old ++ filter (is_selected (map the_selected only.now))
+        (the_statements included)) }
 {
     let names = selected_names(alloc, only)?;
     let mut kept = included.into_items();

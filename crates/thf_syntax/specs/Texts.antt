@@ -79,10 +79,10 @@ formula_text (operator at conn) = codes "(" ++ (conn_text conn ++ codes ")")
 formula_text (negation at body) = codes "~ " ++ grouped_unless (takes Operand body) (formula_text body)
 formula_text (binary at conn left right) =
     infixed (grouped_unless (takes (left_slot conn) left) (formula_text left)) (conn_text conn)
-        (grouped_unless (takes Member right) (formula_text right))
+    (grouped_unless (takes Member right) (formula_text right))
 formula_text (equation at positive left right) =
     infixed (grouped_unless (takes Primary left) (formula_text left)) (equality_text positive)
-        (grouped_unless (takes Unitary right) (formula_text right))
+    (grouped_unless (takes Unitary right) (formula_text right))
 formula_text (application at fun arg) =
     infixed (grouped_unless (takes Head fun) (formula_text fun)) (codes "@") (grouped_unless (takes Operand arg) (formula_text arg))
 formula_text (quantified at all arg) = infixed (quantifier_text all) (codes "@") (grouped_unless (takes Operand arg) (formula_text arg))

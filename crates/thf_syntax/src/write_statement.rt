@@ -44,7 +44,8 @@ fn write_body<S: Sink>(sink: &mut S, body: &Body) -> Result<(), Failed>
 /// Writes what stands before the body of an annotated formula.
 fn write_heading<S: Sink>(sink: &mut S, annotated: &Annotated) -> Result<(), Failed>
     ensures took { OnOk result (Took S.tells S.written S.faults sink.old sink.new (spec.heading_text (the_annotated annotated.now))) }
-    ensures stopped { OnErr result (Stopped S.tells S.written S.faults sink.old sink.new (spec.heading_text (the_annotated annotated.now))) }
+    ensures stopped { OnErr result (Stopped S.tells S.written S.faults sink.old sink.new
+        (spec.heading_text (the_annotated annotated.now))) }
 {
     write(sink, b"thf(")?;
     write_label(sink, annotated.name.as_slice())?;
@@ -53,7 +54,8 @@ fn write_heading<S: Sink>(sink: &mut S, annotated: &Annotated) -> Result<(), Fai
 
 fn write_annotated<S: Sink>(sink: &mut S, annotated: &Annotated) -> Result<(), Failed>
     ensures took { OnOk result (Took S.tells S.written S.faults sink.old sink.new (spec.annotated_text (the_annotated annotated.now))) }
-    ensures stopped { OnErr result (Stopped S.tells S.written S.faults sink.old sink.new (spec.annotated_text (the_annotated annotated.now))) }
+    ensures stopped { OnErr result (Stopped S.tells S.written S.faults sink.old sink.new
+        (spec.annotated_text (the_annotated annotated.now))) }
 {
     write_heading(sink, annotated)?;
     write_body(sink, &annotated.body)?;
@@ -62,8 +64,10 @@ fn write_annotated<S: Sink>(sink: &mut S, annotated: &Annotated) -> Result<(), F
 
 /// Writes a selected name behind other bytes.
 fn write_selected<S: Sink>(sink: &mut S, before: &[u8], selected: &Selected) -> Result<(), Failed>
-    ensures took { OnOk result (Took S.tells S.written S.faults sink.old sink.new (before.now ++ spec.selected_text (the_selected selected.now))) }
-    ensures stopped { OnErr result (Stopped S.tells S.written S.faults sink.old sink.new (before.now ++ spec.selected_text (the_selected selected.now))) }
+    ensures took { OnOk result (Took S.tells S.written S.faults sink.old sink.new
+        (before.now ++ spec.selected_text (the_selected selected.now))) }
+    ensures stopped { OnErr result (Stopped S.tells S.written S.faults sink.old sink.new
+        (before.now ++ spec.selected_text (the_selected selected.now))) }
 {
     write(sink, before)?;
     write_label(sink, selected.name.as_slice())
@@ -114,7 +118,8 @@ fn write_selection<S: Sink>(sink: &mut S, only: &Option<Selection>) -> Result<()
 
 fn write_statement<S: Sink>(sink: &mut S, statement: &Statement) -> Result<(), Failed>
     ensures took { OnOk result (Took S.tells S.written S.faults sink.old sink.new (spec.statement_text (the_statement statement.now))) }
-    ensures stopped { OnErr result (Stopped S.tells S.written S.faults sink.old sink.new (spec.statement_text (the_statement statement.now))) }
+    ensures stopped { OnErr result (Stopped S.tells S.written S.faults sink.old sink.new
+        (spec.statement_text (the_statement statement.now))) }
 {
     match statement {
         Statement::Annotated(annotated) => write_annotated(sink, annotated),

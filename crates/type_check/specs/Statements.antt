@@ -60,7 +60,8 @@ with_base name p =
       declared = record { bases = p.declared.bases ++ name ∷ []; consts = p.declared.consts };
       assumed = p.assumed;
       marked = p.marked;
-      conjecture = p.conjecture }
+      conjecture = p.conjecture;
+    }
 
 abbrev pub with_const : List ℕ → SimpleType → PlainProblem → PlainProblem
 with_const name a p =
@@ -68,7 +69,8 @@ with_const name a p =
       declared = record { bases = p.declared.bases; consts = p.declared.consts ++ record { name = name; type = a } ∷ [] };
       assumed = p.assumed;
       marked = p.marked;
-      conjecture = p.conjecture }
+      conjecture = p.conjecture;
+    }
 
 abbrev pub with_assumed : Bool → Lambda → PlainProblem → PlainProblem
 with_assumed mark t p =

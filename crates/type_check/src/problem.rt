@@ -17,9 +17,12 @@ use thf_include::{Gathered, Placed};
 fn read_placed(alloc: Global, reading: &mut Reading, placed: &Placed) -> Result<(), Ill>
     requires bases { length reading.old.declared.bases < 2 ^ 32 - 2 }
     requires consts { length reading.old.declared.consts < 2 ^ 32 }
-    ensures read { OnOk result (in_file placed.now.file (read_statement (the_reading reading.old) (the_placed placed.now).statement) ≡ Ok (the_reading reading.new)) }
-    ensures ill { IfErr result (λ e. IsIll e (in_file placed.now.file (read_statement (the_reading reading.old) (the_placed placed.now).statement))) }
-    ensures grows { OnOk result (length reading.new.declared.bases + length reading.new.declared.consts ≤ length reading.old.declared.bases + length reading.old.declared.consts + 1) }
+    ensures read { OnOk result (in_file placed.now.file (read_statement (the_reading reading.old) (the_placed placed.now).statement) ≡ Ok
+        (the_reading reading.new)) }
+    ensures ill { IfErr result
+        (λ e. IsIll e (in_file placed.now.file (read_statement (the_reading reading.old) (the_placed placed.now).statement))) }
+    ensures grows { OnOk result (length reading.new.declared.bases + length reading.new.declared.consts ≤ length reading.old.declared.bases
+        + length reading.old.declared.consts + 1) }
 {
     match reading.read_statement(alloc, &placed.statement) {
         Ok(()) => Ok(()),

@@ -104,7 +104,8 @@ impl Reading {
     fn read_base(&mut self, alloc: Global, at: u32, name: &Bytes) -> Result<(), Refusal>
         requires { length self.old.declared.bases < 2 ^ 32 - 2 }
         ensures answer { ReadsOn (the_reading self.new) result (defined.read_base (the_reading self.old) at name.now) }
-        ensures grows { OnOk result (length self.new.declared.bases + length self.new.declared.consts ≤ length self.old.declared.bases + length self.old.declared.consts + 1) }
+        ensures grows { OnOk result (length self.new.declared.bases + length self.new.declared.consts ≤ length self.old.declared.bases
+            + length self.old.declared.consts + 1) }
     {
         if self.declared.find(name).is_some() {
             return Err(Refusal::At {
@@ -126,8 +127,10 @@ impl Reading {
         ty: &SurfaceTy,
     ) -> Result<(), Refusal>
         requires { length self.old.declared.consts < 2 ^ 32 }
-        ensures answer { ReadsOn (the_reading self.new) result (defined.read_const (the_reading self.old) at name.now (the_surface_type ty.now)) }
-        ensures grows { OnOk result (length self.new.declared.bases + length self.new.declared.consts ≤ length self.old.declared.bases + length self.old.declared.consts + 1) }
+        ensures answer { ReadsOn (the_reading self.new) result (defined.read_const (the_reading self.old) at name.now
+            (the_surface_type ty.now)) }
+        ensures grows { OnOk result (length self.new.declared.bases + length self.new.declared.consts ≤ length self.old.declared.bases
+            + length self.old.declared.consts + 1) }
     {
         if self.declared.find(name).is_some() {
             return Err(Refusal::At {
@@ -160,7 +163,8 @@ impl Reading {
         requires bases { length self.old.declared.bases < 2 ^ 32 - 2 }
         requires consts { length self.old.declared.consts < 2 ^ 32 }
         ensures answer { ReadsOn (the_reading self.new) result (defined.read_body (the_reading self.old) role.now (the_body body.now)) }
-        ensures grows { OnOk result (length self.new.declared.bases + length self.new.declared.consts ≤ length self.old.declared.bases + length self.old.declared.consts + 1) }
+        ensures grows { OnOk result (length self.new.declared.bases + length self.new.declared.consts ≤ length self.old.declared.bases
+            + length self.old.declared.consts + 1) }
     {
         match body {
             Body::Base { at, name } => self.read_base(alloc, *at, name),
@@ -180,8 +184,10 @@ impl Reading {
     ) -> Result<(), Refusal>
         requires bases { length self.old.declared.bases < 2 ^ 32 - 2 }
         requires consts { length self.old.declared.consts < 2 ^ 32 }
-        ensures answer { ReadsOn (the_reading self.new) result (defined.read_statement (the_reading self.old) (the_annotated statement.now)) }
-        ensures grows { OnOk result (length self.new.declared.bases + length self.new.declared.consts ≤ length self.old.declared.bases + length self.old.declared.consts + 1) }
+        ensures answer { ReadsOn (the_reading self.new) result (defined.read_statement (the_reading self.old)
+            (the_annotated statement.now)) }
+        ensures grows { OnOk result (length self.new.declared.bases + length self.new.declared.consts ≤ length self.old.declared.bases
+            + length self.old.declared.consts + 1) }
     {
         let role = statement.role.as_slice();
         if !is_role(role) {

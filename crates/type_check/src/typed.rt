@@ -51,7 +51,8 @@ impl<'a> TypeOf<'a> {
         alloc: Global,
         argument: &Ty,
     ) -> Result<Option<TypeOf<'a>>, AllocError>
-        ensures { IfOk result (λ o. option_map the_type_of o ≡ applied_type (Some (the_type_of self.entry)) (Some (the_type argument.now))) }
+        ensures { IfOk result (λ o. option_map the_type_of o ≡ applied_type (Some (the_type_of self.entry))
+            (Some (the_type argument.now))) }
     {
         match self {
             TypeOf::Kept(Ty::Arrow(a, b)) => {

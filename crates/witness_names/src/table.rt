@@ -68,7 +68,8 @@ impl Witnesses {
     pub fn fresh(&mut self, bank: &Bank, predicate: Id) -> Result<u32, AllocError>
         requires few { length self.old < 2 ^ 32 - 1 }
         requires within { predicate < length bank.now.terms }
-        requires predicate { IsTypedRow (content_scope bank.now) (rows_of bank.now.terms self.old) (row_of (term_at bank.now.terms predicate)) }
+        requires predicate { IsTypedRow (content_scope bank.now) (rows_of bank.now.terms self.old)
+            (row_of (term_at bank.now.terms predicate)) }
         requires rows { AreRows bank.now self.old }
         ensures row { IfOk result (λ w. slice_get self.new w ≡ Some predicate) }
         ensures added { OnOk result (self.new ≡ with_predicate self.old predicate) }

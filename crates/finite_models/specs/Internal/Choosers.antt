@@ -17,7 +17,7 @@ constant_of (app s u) = falsity
 abbrev pub symbol_code : Coded Symbol
 symbol_code =
     code_by (Lambda × SimpleType) (coded× lambda_code type_code) (λ x. (constant x.constant, x.type))
-        (λ p. record { constant = constant_of p.0; type = p.1 }) (λ _. refl)
+    (λ p. record { constant = constant_of p.0; type = p.1 }) (λ _. refl)
 
 -- no symbol of the list has the same constant
 abbrev pub IsNoPlace : Symbol → List Symbol → Type 0

@@ -49,9 +49,9 @@ read-partial_labels (head h) rest stack = refl
 read-partial_labels (function a p) rest stack = read-partial_labels p ((2, (0, (a, bound 0))) ∷ rest) stack
 read-partial_labels (application p q) rest stack =
     read-partial_labels p (partial_labels q ((3, (0, (formula, bound 0))) ∷ rest)) stack
-        ∙ read-partial_labels q ((3, (0, (formula, bound 0))) ∷ rest) (p ∷ stack)
+    ∙ read-partial_labels q ((3, (0, (formula, bound 0))) ∷ rest) (p ∷ stack)
 
 abbrev pub partial_code : Coded Partial
 partial_code =
     code_by (List PartialLabel) (coded_list (coded× coded_ℕ (coded× coded_ℕ (coded× type_code lambda_code)))) (λ p. partial_labels p [])
-        (λ ns. top_partial (read_partial_labels ns [])) (λ p. ap top_partial (read-partial_labels p [] []))
+    (λ ns. top_partial (read_partial_labels ns [])) (λ p. ap top_partial (read-partial_labels p [] []))

@@ -28,4 +28,4 @@ abbrev pub Keeps : Lambda → SatLit → List (Lambda × Signed) → List (Lambd
 Keeps h l old new =
     (k : Lambda) (sign : Bool)
     → kept_under k sign new
-            ≡ (if same_term k h && same_sign sign l.positive then kept_under k sign old ++ l ∷ [] else kept_under k sign old)
+    ≡ (if same_term k h && same_sign sign l.positive then kept_under k sign old ++ l ∷ [] else kept_under k sign old)

@@ -22,5 +22,5 @@ behind_spaces bytes = behind_front is_space bytes
 abbrev pub digits_in : List ℕ → Option (List ℕ)
 digits_in bytes =
     if not (has_no_bytes (front is_space bytes)) && is_decimal (front is_digit (behind_spaces bytes)) && is_ending
-        (behind_spaces (behind_front is_digit (behind_spaces bytes)))
+    (behind_spaces (behind_front is_digit (behind_spaces bytes)))
     then Some (front is_digit (behind_spaces bytes)) else None

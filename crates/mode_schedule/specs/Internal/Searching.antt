@@ -53,9 +53,9 @@ pub record IsReadyAt (setting : Setting) (start : List Literal) (n : ℕ) (t : T
 
 -- a search is left as after a step that answered that it is closed, after n commands of its run
 pub record IsClosedAfter (setting : Setting) (start : List Literal) (n : ℕ) (t : Tables) (q : Queue Planned Delays) (m : Mode) : Type 0
-    where
-  pub under_way : IsUnderWay t q m
-  pub setting_is : setting_by t q ≡ setting
-  pub start_is : start_in t ≡ start
-  pub done_is : t.done ≡ n
-  pub closed : IsClosedSearch t q
+  where
+    pub under_way : IsUnderWay t q m
+    pub setting_is : setting_by t q ≡ setting
+    pub start_is : start_in t ≡ start
+    pub done_is : t.done ≡ n
+    pub closed : IsClosedSearch t q

@@ -39,4 +39,4 @@ after_head a (h ∷ hs) = argument_holes h.context a ++ hs
 abbrev pub hole_code : Coded Hole
 hole_code =
     code_by (ℕ × List SimpleType) (coded× coded_ℕ (coded_list type_code)) (λ h. (h.base, h.context))
-        (λ p. record { base = p.0; context = p.1 }) (λ _. refl)
+    (λ p. record { base = p.0; context = p.1 }) (λ _. refl)

@@ -43,10 +43,10 @@ FirstFailureBy true scope start refutation place why = FirstStrictFailure scope 
 
 -- the first failure stands at this line of a text, of which the first row or line is line `first`
 pub record FailsAtBy (strict : Bool) (scope : Scope) (start : List Literal) (refutation : Refutation) (first line : ℕ) (why : Why) : Type 0
-    where
-  pub place : ℕ
-  pub is_first : FirstFailureBy strict scope start refutation place why
-  pub line_is : line ≡ first + place
+  where
+    pub place : ℕ
+    pub is_first : FirstFailureBy strict scope start refutation place why
+    pub line_is : line ≡ first + place
 
 abbrev pub IsTextAcceptedBy : Bool → PlainProblem → RefutationTree → Type 0
 IsTextAcceptedBy false p t = IsAcceptedFor p t

@@ -42,7 +42,7 @@ read-type_nodes (arrow a b) rest stack =
 abbrev pub type_tree_code : Coded TextTypeTree
 type_tree_code =
     code_by (List (ℕ × List ℕ)) (coded_list (coded× coded_ℕ (coded_list coded_ℕ))) (λ a. type_nodes a [])
-        (λ ns. top_type (read_type_nodes ns [])) (λ a. ap top_type (read-type_nodes a [] []))
+    (λ ns. top_type (read_type_nodes ns [])) (λ a. ap top_type (read-type_nodes a [] []))
 
 abbrev pub TreeLabel : Type 0
 TreeLabel = ℕ × (ℕ × (List ℕ × TextTypeTree))
@@ -116,9 +116,9 @@ read-tree_labels (bound k) rest stack = refl
 read-tree_labels (lam a s) rest stack = read-tree_labels s ((10, (0, ([], a))) ∷ rest) stack
 read-tree_labels (app s u) rest stack =
     read-tree_labels s (tree_labels u ((11, (0, ([], formula))) ∷ rest)) stack
-        ∙ read-tree_labels u ((11, (0, ([], formula))) ∷ rest) (s ∷ stack)
+    ∙ read-tree_labels u ((11, (0, ([], formula))) ∷ rest) (s ∷ stack)
 
 abbrev pub term_tree_code : Coded TermTree
 term_tree_code =
     code_by (List TreeLabel) (coded_list (coded× coded_ℕ (coded× coded_ℕ (coded× (coded_list coded_ℕ) type_tree_code))))
-        (λ t. tree_labels t []) (λ ns. top_tree (read_tree_labels ns [])) (λ t. ap top_tree (read-tree_labels t [] []))
+    (λ t. tree_labels t []) (λ ns. top_tree (read_tree_labels ns [])) (λ t. ap top_tree (read-tree_labels t [] []))

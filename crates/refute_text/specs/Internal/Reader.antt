@@ -63,7 +63,7 @@ abbrev mutual
   characters_at [] = None
   characters_at (c ∷ cs) =
       if c == 39 then Some ([], cs) else
-          (if c == 92 then escaped_at cs else (if is_printable c then with_first c (characters_at cs) else None))
+      (if c == 92 then escaped_at cs else (if is_printable c then with_first c (characters_at cs) else None))
 
   -- the same behind a `\`
   pub escaped_at : List ℕ → Option (List ℕ × List ℕ)
@@ -115,7 +115,7 @@ abbrev pub type_from : (List ℕ → Option (TextTypeTree × List ℕ)) → List
 type_from grouped bytes =
     by_front (behind_text (codes "$o") bytes) (λ rest. Some (formula, rest))
     (by_front (behind_text (codes "$i") bytes) (λ rest. Some (individual, rest))
-        (by_front (behind_text (codes "(") bytes) grouped (named_at bytes)))
+    (by_front (behind_text (codes "(") bytes) grouped (named_at bytes)))
 
 unfoldable pub type_at : ℕ → List ℕ → Option (TextTypeTree × List ℕ)
 type_at zero bytes = type_from no_type bytes

@@ -19,8 +19,8 @@ pub record IsReasoned (clauses : List Watched) (trail : TrailState) (i : ℕ) (s
       (n : ℕ)
       → step.reason ≡ Some n
       → (watched : Watched)
-          × (slice_get clauses n ≡ Some watched)
-          × IsUnitClause (take i (literals trail.steps)) watched.clause step.literal
+      × (slice_get clauses n ≡ Some watched)
+      × IsUnitClause (take i (literals trail.steps)) watched.clause step.literal
 
 -- a literal is watched, and the other watched one is this
 abbrev pub IsPair : Watched → SatLit → SatLit → Type 0

@@ -83,4 +83,4 @@ read-lambda_labels (app s u) rest stack =
 abbrev pub lambda_code : Coded Lambda
 lambda_code =
     code_by (List LambdaLabel) (coded_list (coded× coded_ℕ (coded× coded_ℕ type_code))) (λ t. lambda_labels t [])
-        (λ ns. top_lambda (read_lambda_labels ns [])) (λ t. ap top_lambda (read-lambda_labels t [] []))
+    (λ ns. top_lambda (read_lambda_labels ns [])) (λ t. ap top_lambda (read-lambda_labels t [] []))

@@ -31,4 +31,4 @@ read-type_labels (arrow a b) rest stack = read-type_labels a (type_labels b (0 �
 abbrev pub type_code : Coded SimpleType
 type_code =
     code_by (List ℕ) (coded_list coded_ℕ) (λ a. type_labels a []) (λ ns. top_of_types (read_type_labels ns []))
-        (λ a. ap top_of_types (read-type_labels a [] []))
+    (λ a. ap top_of_types (read-type_labels a [] []))

@@ -11,9 +11,9 @@ use Rattle.tableau_calculus.specs.Witnesses.{Row}
 abbrev pub literal_code : Coded Literal
 literal_code =
     code_by (Bool × Lambda) (coded× coded_bool lambda_code) (λ l. (l.positive, l.atom)) (λ p. record { positive = p.0; atom = p.1 })
-        (λ _. refl)
+    (λ _. refl)
 
 abbrev pub row_code : Coded Row
 row_code =
     code_by (SimpleType × Lambda) (coded× type_code lambda_code) (λ r. (r.type, r.predicate)) (λ p. record { type = p.0; predicate = p.1 })
-        (λ _. refl)
+    (λ _. refl)

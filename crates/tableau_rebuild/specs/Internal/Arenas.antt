@@ -81,11 +81,11 @@ pub record ExtendsDrafts (old new : List Draft) : Type 0 where
 
 -- at the place there is the clause, and this stands for it, whatever the terms of the atoms are
 pub record StandsFor (t : Table) (log : List LogEntry) (drafts : List Draft) (p : Place) (clause : List SatLit) (s : Standing) : Type 0
-    where
-  pub within : IsStandingWithin t drafts s
-  pub stands :
-      (b : Content) (atoms witnesses : List ℕ)
-      → Stands (the_input b atoms t log witnesses) p clause (the_standing (the_sources b.terms atoms t) drafts s)
+  where
+    pub within : IsStandingWithin t drafts s
+    pub stands :
+        (b : Content) (atoms witnesses : List ℕ)
+        → Stands (the_input b atoms t log witnesses) p clause (the_standing (the_sources b.terms atoms t) drafts s)
 
 -- what stands for the first results
 abbrev pub AreResults : Table → List LogEntry → List Draft → List Standing → Type 0
@@ -101,7 +101,7 @@ pub record IsJoined (t : Table) (old new : List Draft) (p : Place) (v : Var) (s 
   pub is :
       (terms : List Lambda) (atoms : List ℕ)
       → the_standing (the_sources terms atoms t) new r
-              ≡ joined_standing p v (the_standing (the_sources terms atoms t) old s) (the_standing (the_sources terms atoms t) old u)
+      ≡ joined_standing p v (the_standing (the_sources terms atoms t) old s) (the_standing (the_sources terms atoms t) old u)
 
 -- the premise is a clause, or one of so many results
 abbrev pub IsThere : ℕ → ℕ → Premise → Type 0
@@ -110,14 +110,14 @@ IsThere clauses results (premise.Result m) = m < results
 
 -- what the chain of a result has so far, of which the further steps make the result
 pub record IsChained (t : Table) (log : List LogEntry) (drafts : List Draft) (n k : ℕ) (literals : List SatLit) (s : Standing) : Type 0
-    where
-  pub clause : List SatLit
-  pub same : literals ≡ each_once clause
-  pub stands : StandsFor t log drafts (at_step n k) clause s
-  pub ahead :
-      (entry : LogEntry)
-      → slice_get log n ≡ Some entry
-      → after_steps (the_clauses t) (results (take n log)) clause (drop k entry.chain.steps) ≡ Some entry.result
+  where
+    pub clause : List SatLit
+    pub same : literals ≡ each_once clause
+    pub stands : StandsFor t log drafts (at_step n k) clause s
+    pub ahead :
+        (entry : LogEntry)
+        → slice_get log n ≡ Some entry
+        → after_steps (the_clauses t) (results (take n log)) clause (drop k entry.chain.steps) ≡ Some entry.result
 
 -- the chain of a result has this step
 pub record HasStep (log : List LogEntry) (n k : ℕ) (step : ChainStep) : Type 0 where

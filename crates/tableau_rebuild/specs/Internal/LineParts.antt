@@ -41,7 +41,8 @@ instance_by atoms branch i =
     record {
       branch = literals_of atoms branch;
       rule = rule_at_places i.rule (map (place_in branch) i.principals);
-      children = map (λ _. Closed) i.alternatives }
+      children = map (λ _. Closed) i.alternatives;
+    }
 
 abbrev pub close_by : List Lambda → List SatLit → Line
 close_by atoms branch = record { branch = literals_of atoms branch; rule = AtTwo CloseRule 0 1; children = [] }

@@ -13,7 +13,7 @@ abbrev pub content_code : Coded Content
 content_code =
     code_by (List (List ℕ) × (List TypedName × (List SimpleType × List Lambda)))
     (coded× (coded_list (coded_list coded_ℕ))
-        (coded× (coded_list typed_name_code) (coded× (coded_list type_code) (coded_list lambda_code))))
+    (coded× (coded_list typed_name_code) (coded× (coded_list type_code) (coded_list lambda_code))))
     (λ b. (b.bases, (b.consts, (b.witnesses, b.terms))))
     (λ p. record { bases = p.0; consts = p.1.0; witnesses = p.1.1.0; terms = p.1.1.1 })
     (λ _. refl)
