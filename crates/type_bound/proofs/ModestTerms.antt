@@ -8,7 +8,7 @@ use Rattle.normal_forms.specs.Normal.{Way, eta, later, by_first, ways_at, ways_o
 use Rattle.tableau_calculus.specs.Literals.{Literal, as_literal}
 use Rattle.tableau_calculus.specs.Rules.{at_new, agreement, nowhere, chosen, at_most_once, described, differ_each, Alone, Alternatives, bool_pos, bool_neg, fun_pos, fun_neg, all_pos, all_neg, differ, con, cho, des}
 use Rattle.tableau_calculus.specs.declared.rule_use.OnePlace.{OnePlace}
-use Rattle.tableau_calculus.proofs.AloneLaws.{IsOfParts, alone_parts}
+use Rattle.tableau_calculus.proofs.AloneLaws.{IsOfParts, alone_parts, literal-of}
 use Rattle.tableau_calculus.specs.Each.{Each}
 use Rattle.search_spec.specs.Spine.{head_of, arguments, is_compared, has_compared_head}
 use Rattle.search_spec.proofs.NamingLaws.{each-joined}
@@ -90,22 +90,11 @@ module _ (limit : ℕ) where
 
   -- LITERALS
 
+  modest_parts : IsOfParts (IsModest limit)
+  modest_parts = record { negations = λ s h. h.1; implications = λ s t h. (h.0.1, h.1); equations = λ a s t h. (h.0.1, h.1) }
+
   pub as_literal_keeps : (t : Lambda) → Keeps t → IsModestLiteral limit (as_literal t)
-  as_literal_keeps (bound k) h = h
-  as_literal_keeps (constant c) h = h
-  as_literal_keeps (lam a s) h = h
-  as_literal_keeps (app (bound k) u) h = h
-  as_literal_keeps (app (lam a s) u) h = h
-  as_literal_keeps (app (app s v) u) h = h
-  as_literal_keeps (app (constant negation) u) h = as_literal_keeps u h.1
-  as_literal_keeps (app (constant (name k)) u) h = h
-  as_literal_keeps (app (constant (witness k)) u) h = h
-  as_literal_keeps (app (constant falsity) u) h = h
-  as_literal_keeps (app (constant implication) u) h = h
-  as_literal_keeps (app (constant (all a)) u) h = h
-  as_literal_keeps (app (constant (equality a)) u) h = h
-  as_literal_keeps (app (constant (choice a)) u) h = h
-  as_literal_keeps (app (constant (description a)) u) h = h
+  as_literal_keeps = literal-of (IsModest limit) modest_parts
 
   at_new_keeps : (a : SimpleType) (f : Lambda) → nesting a ≤ limit → Keeps f → Keeps (at_new a f)
   at_new_keeps a f within h = apply_keeps (lift 0 f) (eta a (bound 0)) (lift_keeps 0 f h) (eta_keeps a (bound 0) (omega (arith, within)) tt)
@@ -143,9 +132,6 @@ module _ (limit : ℕ) where
 
   pub fun_neg_keeps : (a b : SimpleType) (s t : Lambda) → nesting (arrow a b) ≤ limit → Keeps s → Keeps t → AreModest (fun_neg a b s t)
   fun_neg_keeps a b s t within h k = ((as_literal_keeps (agreement a b s t) (agreement_keeps a b s t within h k), tt), tt)
-
-  modest_parts : IsOfParts (IsModest limit)
-  modest_parts = record { negations = λ s h. h.1; implications = λ s t h. (h.0.1, h.1); equations = λ a s t h. (h.0.1, h.1) }
 
   -- the alternatives of a rule that looks at its principal alone
   pub alone_keeps : (kind : OnePlace) (l : Literal) (as' : Alternatives) → Alone kind l as' → IsModestLiteral limit l → AreModest as'
