@@ -2,7 +2,7 @@
 use Rattle.std.proofs.Common.{◌≡◌, inl, inr, ◌<◌, ◌≤◌, ◌+◌, ◌-◌, ℕ, zero, suc, ◌&&◌, ◌||◌, not, Bool, true, false, List, [], ◌∷◌, Some, length, drop, refl, sym, ap, ◌∙◌, arith, length-drop}
 use Rattle.std.proofs.lemmas.List.{length-map}
 use Rattle.std.specs.List.{slice_get}
-use Rattle.std.proofs.lemmas.Bool.{false≢true, cases_Bool, or_cases, or_left, or_right, false_from_ne_true}
+use Rattle.std.proofs.lemmas.Bool.{false≢true, cases_Bool, or_left, or_right, false_from_ne_true}
 use Rattle.std.proofs.lemmas.Option.{same_Some}
 use Rattle.sat_base.specs.declared.literal.Var.{Var}
 use Rattle.sat_base.specs.declared.literal.SatLit.{SatLit}
@@ -14,15 +14,6 @@ use Rattle.sat_propagate.proofs.PlaceLaws.{not_after}
 use Rattle.sat_propagate.specs.Internal.Trail.{TrailState, literals, IsTrail}
 use Rattle.sat_core.specs.Internal.Marks.{is_marked, marks_literal}
 use Rattle.sat_propagate.specs.declared.trail.Step.{Step}
-
--- a variable that is mentioned stands at some place
-pub place_of : (steps : List Step) (v : Var) → mentions_variable (literals steps) v ≡ true → (i : ℕ) × (step : Step) × (slice_get steps i ≡ Some step) × (step.literal.var ≡ v)
-place_of [] v h = absurd (false≢true h)
-place_of (s ∷ steps) v h =
-    elim (or_cases (same_var v s.literal.var) (mentions_variable (literals steps) v) h) [
-      | inl here ↦ (zero, s, refl, sym (same_var-true v s.literal.var here))
-      | inr later ↦ let some = place_of steps v later in (suc some.0, some.1, some.2, some.3)
-    ]
 
 -- a literal is in the part of the trail from its place on, and not in a later part
 pub held_from : (steps : List Step) (i start : ℕ) (step : Step) → slice_get steps i ≡ Some step → start ≤ i → holds (drop start (literals steps)) step.literal ≡ true

@@ -1,4 +1,5 @@
 pub mod MarkLaws
+pub mod ReasonLaws
 pub mod CountingLaws
 pub mod AnalysisSteps
 pub mod ShortenSteps

@@ -4,3 +4,6 @@ pub mod Learned
 pub mod Marks
 pub mod Uses
 pub mod Keeper
+pub mod Restarts
+pub mod Reasons
+pub mod Sides

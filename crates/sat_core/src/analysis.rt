@@ -1,5 +1,5 @@
 //! From a conflict to the chain of a clause.
-ghost use Rattle.std.specs.Prelude.{◌≡◌, ◌<◌, ◌≤◌, ◌≢◌, ◌⊎◌, ◌+◌, ◌-◌, ◌&&◌, ◌||◌, ℕ, List, [], not, Some, None, IsTrue, length, drop, slice_get, IfOk, OnOk, IfSome, IfNone};
+ghost use Rattle.std.specs.Prelude.{◌≡◌, ◌<◌, ◌≤◌, ◌≢◌, ◌⊎◌, ◌+◌, ◌-◌, ◌&&◌, ◌||◌, ℕ, List, [], ◌∷◌, ◌++◌, not, Some, None, IsTrue, length, drop, slice_get, IfOk, OnOk, OnErr, IfSome, IfNone};
 ghost use Rattle.sat_base.specs.declared.literal.Var.{Var};
 ghost use Rattle.sat_base.specs.declared.literal.SatLit.{SatLit};
 ghost use Rattle.sat_base.specs.Literal.{holds, mentions_variable, same_var, IsOver};
@@ -20,10 +20,10 @@ use std::alloc::{AllocError, Global};
 /// Marks a variable that has a value. How many more marked ones have a place from `start` on: one or none.
 fn mark_one(trail: &Trail, marks: &mut Marks, var: Var, start: usize) -> Result<usize, AllocError>
     requires valued { IsTrue (mentions_variable (literals trail.now.steps) var) }
-    requires made { var.0 < length marks.old }
-    ensures marks { OnOk result ((v : Var) → is_marked marks.new v ≡ (is_marked marks.old v || same_var v var)) }
-    ensures made { length marks.new ≡ length marks.old }
-    ensures counted { IfOk result (λ late. (late ≤ 1) × (late + how_many (marks_literal marks.old) (drop start (literals trail.now.steps)) ≡ how_many (marks_literal marks.new) (drop start (literals trail.now.steps)))) }
+    requires made { var.0 < length marks.old.marked }
+    ensures marks { OnOk result ((v : Var) → is_marked marks.new.marked v ≡ (is_marked marks.old.marked v || same_var v var)) }
+    ensures made { length marks.new.marked ≡ length marks.old.marked }
+    ensures counted { IfOk result (λ late. (late ≤ 1) × (late + how_many (marks_literal marks.old.marked) (drop start (literals trail.now.steps)) ≡ how_many (marks_literal marks.new.marked) (drop start (literals trail.now.steps)))) }
 {
     if marks.contains(var) {
         return Ok(0);
@@ -46,10 +46,10 @@ pub fn mark_others(
     start: usize,
 ) -> Result<usize, AllocError>
     requires valued { (l : SatLit) → IsTrue (holds among.now l) → IsTrue (mentions_variable (literals trail.now.steps) l.var) }
-    requires made { IsOver (length marks.old) among.now }
-    ensures marks { OnOk result ((v : Var) → is_marked marks.new v ≡ (is_marked marks.old v || mentions_variable (others own among.now) v)) }
-    ensures made { length marks.new ≡ length marks.old }
-    ensures counted { IfOk result (λ late. late + how_many (marks_literal marks.old) (drop start (literals trail.now.steps)) ≡ how_many (marks_literal marks.new) (drop start (literals trail.now.steps))) }
+    requires made { IsOver (length marks.old.marked) among.now }
+    ensures marks { OnOk result ((v : Var) → is_marked marks.new.marked v ≡ (is_marked marks.old.marked v || mentions_variable (others own among.now) v)) }
+    ensures made { length marks.new.marked ≡ length marks.old.marked }
+    ensures counted { IfOk result (λ late. late + how_many (marks_literal marks.old.marked) (drop start (literals trail.now.steps)) ≡ how_many (marks_literal marks.new.marked) (drop start (literals trail.now.steps))) }
 {
     let mut late = 0;
     for packed in among {
@@ -64,9 +64,9 @@ pub fn mark_others(
 /// Marks the variables of some literals, each of which has a value.
 fn mark_all(trail: &Trail, marks: &mut Marks, among: &[SatLit]) -> Result<(), AllocError>
     requires valued { (l : SatLit) → IsTrue (holds among.now l) → IsTrue (mentions_variable (literals trail.now.steps) l.var) }
-    requires made { IsOver (length marks.old) among.now }
-    ensures marks { OnOk result ((v : Var) → is_marked marks.new v ≡ (is_marked marks.old v || mentions_variable (others None among.now) v)) }
-    ensures made { length marks.new ≡ length marks.old }
+    requires made { IsOver (length marks.old.marked) among.now }
+    ensures marks { OnOk result ((v : Var) → is_marked marks.new.marked v ≡ (is_marked marks.old.marked v || mentions_variable (others None among.now) v)) }
+    ensures made { length marks.new.marked ≡ length marks.old.marked }
 {
     for literal in among {
         let _late = mark_one(trail, marks, literal.var, 0)?;
@@ -85,14 +85,14 @@ fn resolve_marks(
     late: usize,
 ) -> Result<usize, AllocError>
     requires valued { (l : SatLit) → IsTrue (holds reason.now l) → IsTrue (mentions_variable (literals trail.now.steps) l.var) }
-    requires made { IsOver (length marks.old) reason.now }
-    requires own_made { own.var.0 < length marks.old }
-    requires own_marked { IsTrue (is_marked marks.old own.var) }
+    requires made { IsOver (length marks.old.marked) reason.now }
+    requires own_made { own.var.0 < length marks.old.marked }
+    requires own_marked { IsTrue (is_marked marks.old.marked own.var) }
     requires own_late { IsTrue (holds (drop start (literals trail.now.steps)) own) }
-    requires counted { late ≡ how_many (marks_literal marks.old) (drop start (literals trail.now.steps)) }
-    ensures marks { OnOk result ((v : Var) → is_marked marks.new v ≡ ((is_marked marks.old v && not (same_var v own.var)) || mentions_variable (others (Some own) reason.now) v)) }
-    ensures made { length marks.new ≡ length marks.old }
-    ensures counted { IfOk result (λ n. (n ≡ how_many (marks_literal marks.new) (drop start (literals trail.now.steps))) × (late ≤ n + 1)) }
+    requires counted { late ≡ how_many (marks_literal marks.old.marked) (drop start (literals trail.now.steps)) }
+    ensures marks { OnOk result ((v : Var) → is_marked marks.new.marked v ≡ ((is_marked marks.old.marked v && not (same_var v own.var)) || mentions_variable (others (Some own) reason.now) v)) }
+    ensures made { length marks.new.marked ≡ length marks.old.marked }
+    ensures counted { IfOk result (λ n. (n ≡ how_many (marks_literal marks.new.marked) (drop start (literals trail.now.steps))) × (late ≤ n + 1)) }
 {
     let _len = trail.len();
     marks.unmark(own.var);
@@ -116,9 +116,9 @@ pub fn point_chain(
     requires decided { 0 < length propagator.now.trail.starts }
     requires last { slice_get propagator.now.trail.starts (length propagator.now.trail.starts - 1) ≡ Some start }
     requires named { length names.now ≡ length propagator.now.clauses.items }
-    requires made { length propagator.now.trail.phases ≤ length marks.old }
-    ensures shortening { IfOk result (λ chain. IsShortening propagator.now.clauses.items propagator.now.trail names.now marks.new start chain) }
-    ensures made { length marks.new ≡ length marks.old }
+    requires made { length propagator.now.trail.phases ≤ length marks.old.marked }
+    ensures shortening { IfOk result (λ chain. IsShortening propagator.now.clauses.items propagator.now.trail names.now marks.new.marked start chain) }
+    ensures made { length marks.new.marked ≡ length marks.old.marked }
 {
     let trail = &propagator.trail;
     marks.clear()?;
@@ -153,7 +153,10 @@ fn reason_to_resolve(step: Step, late: usize) -> Option<usize>
 }
 
 /// Lists a clause from which something is learned.
-pub fn note_used(used: &mut Vec<usize>, n: usize) -> Result<(), AllocError> {
+pub fn note_used(used: &mut Vec<usize>, n: usize) -> Result<(), AllocError>
+    ensures ok { OnOk result (used.new.items ≡ used.old.items ++ n ∷ []) }
+    ensures err { OnErr result (used.new.items ≡ used.old.items) }
+{
     used.push(n)?;
     Ok(())
 }
@@ -180,10 +183,10 @@ pub fn refuted_chain(
     requires root { propagator.now.trail.starts ≡ [] }
     requires over { IsOver (length propagator.now.trail.phases) among.now }
     requires named { length names.now ≡ length propagator.now.clauses.items }
-    requires made { length propagator.now.trail.phases ≤ length marks.old }
+    requires made { length propagator.now.trail.phases ≤ length marks.old.marked }
     ensures refuted { IfOk result (λ chain. (store results : List (List SatLit)) → AreNamedPremises store results names.now propagator.now.clauses.items → premise_clause store results first ≡ Some among.now → chain_result store results chain ≡ Some []) }
     ensures trail { OnOk result (IsTrail propagator.now.trail) }
-    ensures made { length marks.new ≡ length marks.old }
+    ensures made { length marks.new.marked ≡ length marks.old.marked }
 {
     let trail = &propagator.trail;
     marks.clear()?;

@@ -1,5 +1,5 @@
 //! Values that make clauses true, and how few of them are changed when a clause is added.
-ghost use Rattle.std.specs.Prelude.{◌≡◌, ◌≢◌, ◌<◌, ◌≤◌, ◌+◌, [], ℕ, List, Bool, IsTrue, true, false, Some, length, slice_get, IfOk, OnOk, IfSome, IfNone};
+ghost use Rattle.std.specs.Prelude.{◌≡◌, ◌≢◌, ◌<◌, ◌≤◌, ◌+◌, [], ℕ, List, Bool, IsTrue, true, false, Some, length, slice_get, IfOk, OnOk, OnErr, IfSome, IfNone};
 ghost use Rattle.sat_base.specs.declared.literal.Var.{Var};
 ghost use Rattle.sat_base.specs.declared.literal.SatLit.{SatLit};
 ghost use Rattle.sat_base.specs.Literal.{holds, IsOver};
@@ -48,6 +48,10 @@ impl Keeper {
         ensures made { length self.new.values.items ≡ length self.old.values.items }
         ensures listed { OnOk result (self.new.listed ≡ length clauses.now) }
         ensures satisfied { IfOk result (λ r. r ≡ true → AllTrue (assigned self.new.values.items) clauses.now) }
+        ensures kept { IfOk result (λ r. r ≡ true → self.new.kept ≡ length clauses.now) }
+        ensures short { IfOk result (λ r. r ≡ false → self.new.kept < length clauses.now) }
+        ensures err_values { OnErr result (self.new.values.items ≡ self.old.values.items) }
+        ensures err_kept { OnErr result (self.new.kept ≡ self.old.kept) }
     {
         self.list_all(clauses)?;
         let count = clauses.len();
@@ -66,6 +70,7 @@ impl Keeper {
         requires over { AreOver (length self.old.values.items) clauses.now }
         ensures keeper { IsKeeper self.new.values.items self.new.uses self.new.listed self.new.kept clauses.now }
         ensures values { self.new.values.items ≡ self.old.values.items }
+        ensures kept { self.new.kept ≡ self.old.kept }
         ensures listed { OnOk result (self.new.listed ≡ length clauses.now) }
     {
         while self.listed < clauses.len() {
@@ -85,6 +90,11 @@ impl Keeper {
         ensures keeper { IsKeeper self.new.values.items self.new.uses self.new.listed self.new.kept clauses.now }
         ensures made { length self.new.values.items ≡ length self.old.values.items }
         ensures values { OnOk result (self.new.values.items ≡ trail.now.phases) }
+        ensures kept { OnOk result (self.new.kept ≡ self.old.listed) }
+        ensures listed { self.new.listed ≡ self.old.listed }
+        ensures uses { self.new.uses ≡ self.old.uses }
+        ensures err_values { OnErr result (self.new.values.items ≡ self.old.values.items) }
+        ensures err_kept { OnErr result (self.new.kept ≡ self.old.kept) }
     {
         self.values = phases(self.alloc, trail)?;
         self.kept = self.listed;

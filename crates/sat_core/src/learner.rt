@@ -1,5 +1,5 @@
 //! Clauses, what was learned from them, and how.
-ghost use Rattle.std.specs.Prelude.{◌≡◌, [], ◌∷◌, ◌++◌, ℕ, true, false, ◌<◌, ◌≤◌, ◌+◌, List, Some, None, IsSome, IfOk, OnOk, OnErr, length, map};
+ghost use Rattle.std.specs.Prelude.{◌≡◌, ◌≢◌, [], ◌∷◌, ◌++◌, ℕ, true, false, ◌<◌, ◌≤◌, ◌+◌, List, Some, None, IsSome, IfOk, OnOk, OnErr, length, map};
 ghost use Rattle.sat_base.specs.declared.literal.SatLit.{SatLit};
 ghost use Rattle.sat_log.specs.Propagation.{IsFalseIn, Includes};
 ghost use Rattle.sat_log.specs.declared.chain.Premise.{Premise};
@@ -85,6 +85,8 @@ impl Learner {
         ensures clauses { self.new.clauses ≡ self.old.clauses }
         ensures log { self.new.log ≡ self.old.log }
         ensures refuted { self.new.is_refuted ≡ self.old.is_refuted }
+        ensures inserted_clauses { self.new.inserted_clauses ≡ self.old.inserted_clauses }
+        ensures inserted_results { self.new.inserted_results ≡ self.old.inserted_results }
     {
         while self.propagator.trail.variables() < count {
             self.make_variable()?;
@@ -101,6 +103,8 @@ impl Learner {
         ensures clauses { self.new.clauses ≡ self.old.clauses }
         ensures log { self.new.log ≡ self.old.log }
         ensures refuted { self.new.is_refuted ≡ self.old.is_refuted }
+        ensures inserted_clauses { self.new.inserted_clauses ≡ self.old.inserted_clauses }
+        ensures inserted_results { self.new.inserted_results ≡ self.old.inserted_results }
     {
         self.marks.add_variable()?;
         self.propagator.add_variable()?;
@@ -116,6 +120,8 @@ impl Learner {
         ensures log { self.new.log ≡ self.old.log }
         ensures refuted { self.new.is_refuted ≡ self.old.is_refuted }
         ensures propagator { self.new.propagator ≡ self.old.propagator }
+        ensures inserted_clauses { self.new.inserted_clauses ≡ self.old.inserted_clauses }
+        ensures inserted_results { self.new.inserted_results ≡ self.old.inserted_results }
     {
         let clause = Clause::from_slice(self.alloc, clause.as_slice())?;
         self.clauses.push(clause)?;
@@ -145,6 +151,10 @@ impl Learner {
         ensures grew { GrewLearner self.old self.new }
         ensures within { length (learned_from self.new.is_refuted (results self.new.log)) ≤ budget }
         ensures answer { IfOk result (λ answer. AnswersSolve budget (seen self.new) answer) }
+        ensures more_clauses { self.old.inserted_clauses ≤ self.new.inserted_clauses }
+        ensures more_results { self.old.inserted_results ≤ self.new.inserted_results }
+        ensures all_clauses { IfOk result (λ answer. answer ≢ Answer.Unsat → self.new.inserted_clauses ≡ length self.new.clauses) }
+        ensures all_results { IfOk result (λ answer. answer ≢ Answer.Unsat → self.new.inserted_results ≡ length self.new.log) }
     {
         self.propagator.wish(values);
         let mut restarts = Restarts::new();
@@ -170,6 +180,11 @@ impl Learner {
         ensures open { IfOk result (λ r. r ≡ None → self.new.is_refuted ≡ false) }
         ensures longer { IfOk result (λ r. r ≡ None → length self.new.log ≡ length self.old.log + 1) }
         ensures answer { IfOk result (λ r. (answer : Answer) → r ≡ Some answer → AnswersSolve budget (seen self.new) answer) }
+        ensures more_clauses { self.old.inserted_clauses ≤ self.new.inserted_clauses }
+        ensures more_results { self.old.inserted_results ≤ self.new.inserted_results }
+        ensures all_clauses { IfOk result (λ r. r ≢ Some Answer.Unsat → self.new.inserted_clauses ≡ length self.new.clauses) }
+        ensures all_results { IfOk result (λ r. r ≢ Some Answer.Unsat → self.new.inserted_results ≡ length self.old.log) }
+        ensures log { IfOk result (λ r. IsSome r → r ≢ Some Answer.Unsat → self.new.log ≡ self.old.log) }
     {
         if let Some(premise) = self.insert_all()? {
             self.refute(premise)?;
@@ -199,6 +214,9 @@ impl Learner {
         ensures open { IfOk result (λ r. r ≡ None → self.new.is_refuted ≡ false) }
         ensures longer { IfOk result (λ r. r ≡ None → length self.new.log ≡ length self.old.log + 1) }
         ensures answer { IfOk result (λ r. (answer : Answer) → r ≡ Some answer → AnswersSolve budget (seen self.new) answer) }
+        ensures inserted_clauses { self.new.inserted_clauses ≡ self.old.inserted_clauses }
+        ensures inserted_results { self.new.inserted_results ≡ self.old.inserted_results }
+        ensures log { IfOk result (λ r. IsSome r → r ≢ Some Answer.Unsat → self.new.log ≡ self.old.log) }
     {
         if self.propagator.trail.levels() == 0 {
             let premise = self.names[conflict];
@@ -226,6 +244,10 @@ impl Learner {
         ensures there { IfOk result (λ r. (premise : Premise) → r ≡ Some premise → IsSome (premise_clause self.new.clauses (results self.new.log) premise)) }
         ensures falsified { IfOk result (λ r. (premise : Premise) (clause : List SatLit) → r ≡ Some premise → premise_clause self.new.clauses (results self.new.log) premise ≡ Some clause → IsFalseIn (literals self.new.propagator.trail.steps) clause) }
         ensures root { IfOk result (λ r. (premise : Premise) → r ≡ Some premise → self.new.propagator.trail.starts ≡ []) }
+        ensures more_clauses { self.old.inserted_clauses ≤ self.new.inserted_clauses }
+        ensures more_results { self.old.inserted_results ≤ self.new.inserted_results }
+        ensures all_clauses { IfOk result (λ r. r ≡ None → self.new.inserted_clauses ≡ length self.new.clauses) }
+        ensures all_results { IfOk result (λ r. r ≡ None → self.new.inserted_results ≡ length self.new.log) }
     {
         while self.inserted_clauses < self.clauses.len() {
             let premise = Premise::Clause(self.inserted_clauses);
@@ -277,6 +299,8 @@ impl Learner {
         ensures learned { IfOk result (λ chain. Learns self.old.propagator.clauses.items self.old.propagator.trail self.old.names.items chain) }
         ensures propagator { self.new.propagator ≡ self.old.propagator }
         ensures names { self.new.names.items ≡ self.old.names.items }
+        ensures inserted_clauses { self.new.inserted_clauses ≡ self.old.inserted_clauses }
+        ensures inserted_results { self.new.inserted_results ≡ self.old.inserted_results }
     {
         learned_chain(
             self.alloc,
@@ -301,6 +325,8 @@ impl Learner {
         ensures refuted { self.new.is_refuted ≡ self.old.is_refuted }
         ensures longer { OnOk result (length self.new.log ≡ length self.old.log + 1) }
         ensures err { OnErr result (self.new.log ≡ self.old.log) }
+        ensures inserted_clauses { self.new.inserted_clauses ≡ self.old.inserted_clauses }
+        ensures inserted_results { self.new.inserted_results ≡ self.old.inserted_results }
     {
         self.log.push(&self.clauses, chain)?;
         let names = self.names.as_slice();
@@ -326,6 +352,8 @@ impl Learner {
         ensures err { OnErr result (self.new.log ≡ self.old.log) }
         ensures open { OnErr result (self.new.is_refuted ≡ false) }
         ensures grew { GrewLearner self.old self.new }
+        ensures inserted_clauses { self.new.inserted_clauses ≡ self.old.inserted_clauses }
+        ensures inserted_results { self.new.inserted_results ≡ self.old.inserted_results }
     {
         let chain = refuted_chain(
             self.alloc,

@@ -25,9 +25,9 @@ pub fn learned_chain(
     requires conflict { IsConflict propagator.now.trail propagator.now.clauses.items conflict }
     requires decided { 0 < length propagator.now.trail.starts }
     requires named { length names.now ≡ length propagator.now.clauses.items }
-    requires made { length propagator.now.trail.phases ≤ length marks.old }
+    requires made { length propagator.now.trail.phases ≤ length marks.old.marked }
     ensures learned { IfOk result (λ chain. Learns propagator.now.clauses.items propagator.now.trail names.now chain) }
-    ensures made { length marks.new ≡ length marks.old }
+    ensures made { length marks.new.marked ≡ length marks.old.marked }
 {
     let trail = &propagator.trail;
     let start = trail.start(trail.levels() - 1);
@@ -54,10 +54,10 @@ fn shorten(
 ) -> Result<(), AllocError>
     requires right { IsPropagator propagator.now.trail propagator.now.processed propagator.now.clauses.items propagator.now.lists }
     requires named { length names.now ≡ length propagator.now.clauses.items }
-    requires shortening { IsShortening propagator.now.clauses.items propagator.now.trail names.now marks.old start chain.old }
-    requires made { length propagator.now.trail.phases ≤ length marks.old }
-    ensures shortening { OnOk result (IsShortening propagator.now.clauses.items propagator.now.trail names.now marks.new start chain.new) }
-    ensures made { length marks.new ≡ length marks.old }
+    requires shortening { IsShortening propagator.now.clauses.items propagator.now.trail names.now marks.old.marked start chain.old }
+    requires made { length propagator.now.trail.phases ≤ length marks.old.marked }
+    ensures shortening { OnOk result (IsShortening propagator.now.clauses.items propagator.now.trail names.now marks.new.marked start chain.new) }
+    ensures made { length marks.new.marked ≡ length marks.old.marked }
 {
     let trail = &propagator.trail;
     if start <= place || trail.len() <= place {

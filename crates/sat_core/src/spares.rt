@@ -1,5 +1,6 @@
 //! Which literals of a clause follow from its others.
-ghost use Rattle.std.specs.Prelude.{◌<◌, length, IfSome};
+ghost use Rattle.std.specs.Prelude.{◌≡◌, ◌≤◌, ◌<◌, ℕ, [], length, IfSome, IfNone, OnOk};
+ghost use Rattle.sat_core.specs.Internal.Reasons.{IsReasonOf, IsReasonClause};
 
 use crate::marks::Marks;
 use sat_base::Var;
@@ -33,16 +34,21 @@ enum Found {
 pub struct Spares {
     known: Vec<Known>,
     judged: Vec<Var>,
-    open: Vec<Visit>,
+    visits: Vec<Visit>,
     places: Vec<usize>,
 }
 
 impl Spares {
-    pub fn new(alloc: Global) -> Self {
+    pub fn new(alloc: Global) -> Self
+        ensures known { result.known.items ≡ [] }
+        ensures judged { result.judged.items ≡ [] }
+        ensures visits { result.visits.items ≡ [] }
+        ensures places { result.places.items ≡ [] }
+    {
         Spares {
             known: Vec::new(alloc),
             judged: Vec::new(alloc),
-            open: Vec::new(alloc),
+            visits: Vec::new(alloc),
             places: Vec::new(alloc),
         }
     }
@@ -70,12 +76,18 @@ impl Spares {
     }
 
     /// The places of the literals that follow, in order.
-    pub fn places(&self) -> &[usize] {
+    pub fn places(&self) -> &[usize]
+        ensures { result.now ≡ self.now.places.items }
+    {
         self.places.as_slice()
     }
 
     /// Forgets what is known.
-    fn restart(&mut self, variables: usize) -> Result<(), AllocError> {
+    fn restart(&mut self, variables: usize) -> Result<(), AllocError>
+        ensures judged { self.new.judged.items ≡ [] }
+        ensures places { self.new.places.items ≡ [] }
+        ensures made { OnOk result (variables ≤ length self.new.known.items) }
+    {
         for var in self.judged.as_slice() {
             if let Some(slot) = self.known.get_mut(var.0) {
                 *slot = Known::Nothing;
@@ -96,18 +108,18 @@ impl Spares {
         marks: &Marks,
         var: Var,
     ) -> Result<(), AllocError> {
-        self.open.clear();
-        self.open.push(Visit { var, read: 0 })?;
+        self.visits.clear();
+        self.visits.push(Visit { var, read: 0 })?;
         for _ in 0..u64::MAX {
-            let Some(visit) = self.open.pop() else {
+            let Some(visit) = self.visits.pop() else {
                 break;
             };
             match self.read_on(propagator, marks, visit) {
                 Found::Known(Known::Follows) => self.note_follows(propagator, visit.var)?,
                 Found::Known(_) => self.note_fails(visit.var)?,
                 Found::Needed { visit, var } => {
-                    self.open.push(visit)?;
-                    self.open.push(Visit { var, read: 0 })?;
+                    self.visits.push(visit)?;
+                    self.visits.push(Visit { var, read: 0 })?;
                 }
             }
         }
@@ -160,8 +172,8 @@ impl Spares {
     /// A variable's literal doesn't follow, and so do those whose reasons need it.
     fn note_fails(&mut self, var: Var) -> Result<(), AllocError> {
         self.note(var, Known::Fails)?;
-        for _ in 0..self.open.len() {
-            if let Some(needing) = self.open.pop() {
+        for _ in 0..self.visits.len() {
+            if let Some(needing) = self.visits.pop() {
                 self.note(needing.var, Known::Fails)?;
             }
         }
@@ -170,14 +182,20 @@ impl Spares {
 }
 
 /// The literals of the clause that made a variable's literal true, if one did.
-fn reason_of(propagator: &Propagator, var: Var) -> Option<&[Packed]> {
+fn reason_of(propagator: &Propagator, var: Var) -> Option<&[Packed]>
+    ensures some { IfSome result (λ literals. IsReasonClause propagator.now.trail propagator.now.clauses.items var literals.now) }
+    ensures none { IfNone result ((n : ℕ) → IsReasonOf propagator.now.trail var n → length propagator.now.clauses.items ≤ n) }
+{
     let reason = reason_number(propagator, var)?;
     Some(propagator.literals(reason))
 }
 
 /// The number of the clause that made a variable's literal true, if one did.
 pub fn reason_number(propagator: &Propagator, var: Var) -> Option<usize>
-    ensures { IfSome result (λ n. n < length propagator.now.clauses.items) }
+    ensures within { IfSome result (λ n. n < length propagator.now.clauses.items) }
+    ensures some { IfSome result (λ n. IsReasonOf propagator.now.trail var n) }
+    ensures only { IfSome result (λ n. (m : ℕ) → IsReasonOf propagator.now.trail var m → m ≡ n) }
+    ensures none { IfNone result ((n : ℕ) → IsReasonOf propagator.now.trail var n → length propagator.now.clauses.items ≤ n) }
 {
     let place = propagator.trail.find(var)?;
     if place >= propagator.trail.len() {

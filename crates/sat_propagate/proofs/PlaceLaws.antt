@@ -1,19 +1,32 @@
 -- Places of literals on a trail.
-use Rattle.std.proofs.Common.{◌≡◌, ◌<◌, ℕ, zero, suc, true, false, List, [], ◌∷◌, Some, drop, refl, sym, ap, ◌∙◌, arith}
+use Rattle.std.proofs.Common.{◌≡◌, inl, inr, ◌<◌, ℕ, zero, suc, true, false, List, [], ◌∷◌, Some, drop, refl, sym, ap, ◌∙◌, arith}
 use Rattle.std.specs.List.{slice_get}
 use Rattle.std.specs.Option.{option_map}
-use Rattle.std.proofs.lemmas.Bool.{false≢true, or_right, false_from_ne_true}
+use Rattle.std.proofs.lemmas.Bool.{false≢true, or_cases, or_right, false_from_ne_true}
 use Rattle.std.proofs.lemmas.Option.{slice_get-map, same_Some}
 use Rattle.sat_base.specs.declared.literal.Var.{Var}
 use Rattle.sat_base.specs.declared.literal.SatLit.{SatLit}
 use Rattle.sat_base.specs.Literal.{same_var, mentions_variable, HoldsNoVariableTwice}
-use Rattle.sat_base.proofs.LiteralLaws.{mentions-held}
+use Rattle.sat_base.proofs.LiteralLaws.{same_var-true, mentions-held}
 use Rattle.sat_laws.proofs.TrailLaws.{held_at}
 use Rattle.sat_propagate.specs.Internal.Trail.{literals}
 use Rattle.sat_propagate.specs.declared.trail.Step.{Step}
 
 pub literal_at : (steps : List Step) (i : ℕ) (step : Step) → slice_get steps i ≡ Some step → slice_get (literals steps) i ≡ Some step.literal
 literal_at steps i step at = slice_get-map (λ (s : Step). s.literal) steps i ∙ ap (option_map (λ (s : Step). s.literal)) at
+
+-- a variable that is mentioned stands at some place
+pub place_of : (steps : List Step) (v : Var) → mentions_variable (literals steps) v ≡ true → (i : ℕ) × (step : Step) × (slice_get steps i ≡ Some step) × (step.literal.var ≡ v)
+place_of [] v h = absurd (false≢true h)
+place_of (s ∷ steps) v h =
+    elim (or_cases (same_var v s.literal.var) (mentions_variable (literals steps) v) h) [
+      | inl here ↦ (zero, s, refl, sym (same_var-true v s.literal.var here))
+      | inr later ↦ let some = place_of steps v later in (suc some.0, some.1, some.2, some.3)
+    ]
+
+-- a variable that stands at some place is mentioned
+pub mentioned_at : (steps : List Step) (i : ℕ) (step : Step) → slice_get steps i ≡ Some step → mentions_variable (literals steps) step.literal.var ≡ true
+mentioned_at steps i step at = mentions-held (literals steps) step.literal (held_at (literals steps) i step.literal (literal_at steps i step at))
 
 -- a variable stands at one place alone
 pub once_place : (some : List SatLit) (i j : ℕ) (a b : SatLit) → HoldsNoVariableTwice some → slice_get some i ≡ Some a → slice_get some j ≡ Some b → a.var ≡ b.var → i ≡ j

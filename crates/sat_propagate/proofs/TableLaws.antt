@@ -3,7 +3,7 @@ use Rattle.std.proofs.Common.{◌≡◌, ◌≢◌, ◌⊎◌, inl, inr, ◌<◌
 use Rattle.std.specs.Bool.{beq}
 use Rattle.std.specs.List.{All, slice_get}
 use Rattle.std.specs.Option.{option_map}
-use Rattle.std.proofs.lemmas.Bool.{false≢true, cases_Bool, or_cases, or_parts, or_left, or_right, or_from, and_parts, and_from, false_from_ne_true, cases_order, not-true, not_from_false}
+use Rattle.std.proofs.lemmas.Bool.{false≢true, cases_Bool, or_cases, or_parts, or_left, or_right, or_from, and_parts, and_from, false_from_ne_true, true_from_ne_false, cases_order, not-true, not_from_false}
 use Rattle.std.proofs.lemmas.List.{length-map, get_or_past, get_or-take, length-take-le}
 use Rattle.std.proofs.lemmas.List.Elements.{All-push, All-weaker}
 use Rattle.std.proofs.lemmas.List.Folds.{list_any-append}
@@ -20,7 +20,7 @@ use Rattle.sat_propagate.specs.Internal.Trail.{TrailState, literals, open_cell, 
 use Rattle.sat_propagate.specs.declared.trail.Step.{Step}
 use Rattle.sat_propagate.specs.declared.trail.Cell.{Cell}
 use Rattle.sat_propagate.proofs.ListLaws.{get-take, map-set_same, unmentioned}
-use Rattle.sat_propagate.proofs.PlaceLaws.{literal_at, once_place, not_after}
+use Rattle.sat_propagate.proofs.PlaceLaws.{literal_at, place_of, once_place, not_after}
 use Rattle.sat_laws.proofs.AnalysisLaws.{place_below}
 use Rattle.sat_laws.proofs.WatchLaws.{held-take}
 use Rattle.sat_propagate.proofs.PropagatorLaws.{step_cases, literals-push, trail_short, if_true, if_false}
@@ -167,6 +167,20 @@ open_iff cells steps v tabled = (
     beq_same : (b : Bool) → beq b b ≡ true
     beq_same true = refl
     beq_same false = refl
+
+-- the place of a variable that has a value is that of a literal on it
+pub found_there : (cells : List Cell) (steps : List Step) (v : Var) → IsTabled cells steps → (cell_of cells v).assigned ≡ true
+    → (step : Step) × (slice_get steps (cell_of cells v).place ≡ Some step) × (step.literal.var ≡ v)
+found_there cells steps v tabled assigned =
+    let there : mentions_variable (literals steps) v ≡ true =
+    true_from_ne_false (mentions_variable (literals steps) v) (λ absent. false≢true (sym (ap not assigned) ∙ (open_iff cells steps v tabled).1 absent)) in
+    let some = place_of steps v there in
+    let place : (cell_of cells v).place ≡ some.0 = ap (λ (w : Var). (cell_of cells w).place) (sym some.3) ∙ tabled.places some.0 some.1 some.2 in
+    (some.1, ap (slice_get steps) place ∙ some.2, some.3)
+
+-- a variable without a value is not mentioned
+pub found_nowhere : (cells : List Cell) (steps : List Step) (v : Var) → IsTabled cells steps → (cell_of cells v).assigned ≡ false → mentions_variable (literals steps) v ≡ false
+found_nowhere cells steps v tabled unassigned = (open_iff cells steps v tabled).0 (not_from_false _ unassigned)
 
 -- the same with the place and the steps as the code names them
 pub inside_read : (cells : List Cell) (steps after : List Step) (starts : List ℕ) (l : SatLit) (reason : Option ℕ) (place : ℕ) → place ≡ length steps → after ≡ steps ++ record { literal = l; reason = reason } ∷ []

@@ -184,7 +184,10 @@ impl Trail {
     }
 
     /// The place of the literal on a variable, where it has a value.
-    pub fn find(&self, var: Var) -> Option<usize> {
+    pub fn find(&self, var: Var) -> Option<usize>
+        ensures some { IfSome result (λ place. (step : Step) × (slice_get self.now.steps place ≡ Some step) × (step.literal.var ≡ var)) }
+        ensures none { IfNone result (mentions_variable (literals self.now.steps) var ≡ false) }
+    {
         match self.cells.get(var.0) {
             Some(cell) if cell.assigned => Some(cell.place),
             _ => None,

@@ -60,7 +60,7 @@ pub record IsLearnerOf (clauses : List (List SatLit)) (log : List LogEntry) (is_
 
 -- the facts that hold of a learner between any two calls
 abbrev pub IsLearner : Learner → Type 0
-IsLearner s = IsLearnerOf s.clauses s.log s.is_refuted s.propagator s.names.items s.marks s.inserted_clauses s.inserted_results
+IsLearner s = IsLearnerOf s.clauses s.log s.is_refuted s.propagator s.names.items s.marks.marked s.inserted_clauses s.inserted_results
 
 -- the log grew by new clauses and the empty one, and the clauses and the number of variables stayed
 pub record GrewLearner (before after : Learner) : Type 0 where

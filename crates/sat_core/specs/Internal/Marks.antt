@@ -5,6 +5,12 @@ use Rattle.sat_base.specs.declared.literal.Var.{Var}
 use Rattle.sat_base.specs.declared.literal.SatLit.{SatLit}
 use Rattle.sat_base.specs.Literal.{same_literal}
 
+-- a mark for each variable, which were marked since all marks were taken away, in order, and how many of these were met
+pub record MarkState : Type 0 where
+  pub marked : List Bool
+  pub touched : List Var
+  pub met : ℕ
+
 -- whether a variable is marked
 abbrev pub is_marked : List Bool → Var → Bool
 is_marked marks v = slice_index_or marks v.0 false

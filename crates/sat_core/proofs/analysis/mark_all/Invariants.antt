@@ -6,6 +6,6 @@ use Rattle.sat_core.proofs.analysis.mark_all.Given as goal
 
 abbrev pub invariant-loop-literal : goal.invariant-loop-literal
 invariant-loop-literal l = record {
-  marks : (v : Var) → is_marked l.marks v ≡ (is_marked l.fn.marks v || mentions_variable (others None (take l.literal-index l.among)) v);
-  made : length l.marks ≡ length l.fn.marks;
+  marks : (v : Var) → is_marked l.marks.marked v ≡ (is_marked l.fn.marks.marked v || mentions_variable (others None (take l.literal-index l.among)) v);
+  made : length l.marks.marked ≡ length l.fn.marks.marked;
 }

@@ -8,8 +8,8 @@ use Rattle.sat_core.proofs.analysis.mark_others.Given as goal
 
 abbrev pub invariant-loop-packed : goal.invariant-loop-packed
 invariant-loop-packed l = record {
-  marks : (v : Var) → is_marked l.marks v ≡ (is_marked l.fn.marks v || mentions_variable (others l.own (take l.packed-index l.among)) v);
-  made : length l.marks ≡ length l.fn.marks;
-  counted : l.late + how_many (marks_literal l.fn.marks) (drop l.start (literals l.trail.steps)) ≡ how_many (marks_literal l.marks) (drop l.start (literals l.trail.steps));
+  marks : (v : Var) → is_marked l.marks.marked v ≡ (is_marked l.fn.marks.marked v || mentions_variable (others l.own (take l.packed-index l.among)) v);
+  made : length l.marks.marked ≡ length l.fn.marks.marked;
+  counted : l.late + how_many (marks_literal l.fn.marks.marked) (drop l.start (literals l.trail.steps)) ≡ how_many (marks_literal l.marks.marked) (drop l.start (literals l.trail.steps));
   few : l.late ≤ l.packed-index;
 }

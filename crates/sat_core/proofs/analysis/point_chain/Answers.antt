@@ -27,11 +27,11 @@ loop-place-init c =
     let start = c.args.start in
     let read : c.literals.result.now ≡ conflict.watched.clause = c.literals.ensures conflict.watched conflict.there in
     record {
-      analysed = subst (λ (steps : List ChainStep). IsAnalysed clauses trail c.args.names.now c.args.conflict start c.mark_others.new.marks steps c.in_ok-late.late c.len-place.result) (sym c.new-steps.ensures)
-          (analysed_start clauses trail c.args.names.now c.args.conflict start c.clear.new.self c.mark_others.new.marks c.in_ok-late.late c.len-place.result conflict.watched c.len-place.ensures.right
+      analysed = subst (λ (steps : List ChainStep). IsAnalysed clauses trail c.args.names.now c.args.conflict start c.mark_others.new.marks.marked steps c.in_ok-late.late c.len-place.result) (sym c.new-steps.ensures)
+          (analysed_start clauses trail c.args.names.now c.args.conflict start c.clear.new.self.marked c.mark_others.new.marks.marked c.in_ok-late.late c.len-place.result conflict.watched c.len-place.ensures.right
           (complete_at trail c.args.propagator.now.processed clauses c.args.propagator.now.lists start c.requires.right c.len-place.ensures.right (contains_at trail.starts (length trail.starts - 1) start c.requires.last))
           conflict.there conflict.falsified c.in_ok-clear.ensures.ok
-          (subst (λ (some : List SatLit). (v : Var) → is_marked c.mark_others.new.marks v ≡ (is_marked c.clear.new.self v || mentions_variable (others None some) v)) read c.in_ok-late.ensures.marks)
+          (subst (λ (some : List SatLit). (v : Var) → is_marked c.mark_others.new.marks.marked v ≡ (is_marked c.clear.new.self.marked v || mentions_variable (others None some) v)) read c.in_ok-late.ensures.marks)
           c.in_ok-late.ensures.counted c.len-place.ensures.number);
       made = c.mark_others.ensures.made ∙ c.clear.ensures.made;
     }
@@ -48,7 +48,7 @@ returns-in_default-clause-shortening c =
     let a = c.loop-place.invariant.analysed in
     let complete : IsComplete (texts clauses) (take c.args.start (literals trail.steps)) =
     complete_at trail c.args.propagator.now.processed clauses c.args.propagator.now.lists c.args.start c.requires.right c.len-place.ensures.right (contains_at trail.starts (length trail.starts - 1) c.args.start c.requires.last) in
-    let learned : IsLearned trail c.args.start a.so_far = analysed_stop clauses trail c.args.names.now c.args.conflict c.args.start c.loop-place.marks c.loop-place.steps c.loop-place.late c.loop-place.place c.step-step.result a
+    let learned : IsLearned trail c.args.start a.so_far = analysed_stop clauses trail c.args.names.now c.args.conflict c.args.start c.loop-place.marks.marked c.loop-place.steps c.loop-place.late c.loop-place.place c.step-step.result a
     c.len-place.ensures.right c.requires.last c.loop-place-test.true c.step-step.ensures (sym c.contains.ensures ∙ c.if-contains.true)
     ((c.requires.right.reasoned (c.loop-place.place - 1) c.step-step.result c.step-step.ensures).decided) c.in_default.ensures.none in
     record {
@@ -78,8 +78,8 @@ resolve_marks-requires-clause-made c =
     let why = c.in-Some.ensures.some in
     let reason = (c.requires.right.reasoned (c.loop-place.place - 1) c.step-step.result c.step-step.ensures).forced c.in-Some.reason why.0 in
     let read : c.literals-literals.result.now ≡ reason.0.clause = c.literals-literals.ensures reason.0 reason.1 in
-    subst (λ (some : List SatLit). IsOver (length c.loop-place.marks) some) (sym read)
-    (over_more (length c.args.propagator.now.trail.phases) (length c.loop-place.marks) reason.0.clause (omega (arith, c.loop-place.invariant.made, c.requires.made)) (c.requires.right.over c.in-Some.reason reason.0 reason.1))
+    subst (λ (some : List SatLit). IsOver (length c.loop-place.marks.marked) some) (sym read)
+    (over_more (length c.args.propagator.now.trail.phases) (length c.loop-place.marks.marked) reason.0.clause (omega (arith, c.loop-place.invariant.made, c.requires.made)) (c.requires.right.over c.in-Some.reason reason.0 reason.1))
 
 pub resolve_marks-requires-clause-own_late : goal.resolve_marks-requires-clause-own_late
 resolve_marks-requires-clause-own_late c =
@@ -102,23 +102,23 @@ loop-place-preserved-in-Continue-branch-6 c =
     let read : c.literals-literals.result.now ≡ reason.0.clause = c.literals-literals.ensures reason.0 reason.1 in
     let counts = c.in_ok-late-2.ensures.counted in
     record {
-      analysed = subst (λ (steps : List ChainStep). IsAnalysed clauses trail c.args.names.now c.args.conflict c.args.start c.resolve_marks.new.marks steps c.in_ok-late-2.late (c.loop-place.place - 1)) (sym c.in_ok-push.ensures.ok)
-          (analysed_next clauses trail c.args.names.now c.args.conflict c.args.start c.loop-place.marks c.resolve_marks.new.marks c.loop-place.steps c.loop-place.late c.in_ok-late-2.late c.loop-place.place c.in-Some.reason
+      analysed = subst (λ (steps : List ChainStep). IsAnalysed clauses trail c.args.names.now c.args.conflict c.args.start c.resolve_marks.new.marks.marked steps c.in_ok-late-2.late (c.loop-place.place - 1)) (sym c.in_ok-push.ensures.ok)
+          (analysed_next clauses trail c.args.names.now c.args.conflict c.args.start c.loop-place.marks.marked c.resolve_marks.new.marks.marked c.loop-place.steps c.loop-place.late c.in_ok-late-2.late c.loop-place.place c.in-Some.reason
           c.step-step.result reason.0 c.name_of.result c.loop-place.invariant.analysed c.len-place.ensures.right (omega (arith, c.loop-place-test.true)) c.step-step.ensures (sym c.contains.ensures ∙ c.if-contains.true)
           reason.1 reason.2 c.name_of.ensures
-          (λ v. c.in_ok-late-2.ensures.marks v ∙ ap (λ (some : List SatLit). (is_marked c.loop-place.marks v && not (same_var v c.step-step.result.literal.var)) || mentions_variable (others (Some c.step-step.result.literal) some) v) read)
+          (λ v. c.in_ok-late-2.ensures.marks v ∙ ap (λ (some : List SatLit). (is_marked c.loop-place.marks.marked v && not (same_var v c.step-step.result.literal.var)) || mentions_variable (others (Some c.step-step.result.literal) some) v) read)
           counts.0 counts.1 why.1);
       made = c.resolve_marks.ensures.made ∙ c.loop-place.invariant.made;
     }
 
 pub loop-place-preserved : goal.loop-place-preserved
 loop-place-preserved c = record {
-  analysed = analysed_skip c.args.propagator.now.clauses.items c.args.propagator.now.trail c.args.names.now c.args.conflict c.args.start c.loop-place.marks c.loop-place.steps c.loop-place.late c.loop-place.place
+  analysed = analysed_skip c.args.propagator.now.clauses.items c.args.propagator.now.trail c.args.names.now c.args.conflict c.args.start c.loop-place.marks.marked c.loop-place.steps c.loop-place.late c.loop-place.place
       c.step-step.result c.loop-place.invariant.analysed (omega (arith, c.loop-place-test.true)) c.step-step.ensures (sym c.contains.ensures ∙ c.if-contains.false);
   made = c.loop-place.invariant.made;
 }
 
 pub unreachable-requires : goal.unreachable-requires
 unreachable-requires c =
-    analysed_end c.args.propagator.now.clauses.items c.args.propagator.now.trail c.args.names.now c.args.conflict c.args.start c.loop-place.marks c.loop-place.steps c.loop-place.late c.loop-place.place
+    analysed_end c.args.propagator.now.clauses.items c.args.propagator.now.trail c.args.names.now c.args.conflict c.args.start c.loop-place.marks.marked c.loop-place.steps c.loop-place.late c.loop-place.place
     c.loop-place.invariant.analysed c.len-place.ensures.right c.loop-place-test.false

@@ -4,6 +4,6 @@ use Rattle.sat_core.proofs.analysis.point_chain.Given as goal
 
 abbrev pub invariant-loop-place : goal.invariant-loop-place
 invariant-loop-place l = record {
-  analysed : IsAnalysed l.propagator.clauses.items l.propagator.trail l.names l.conflict l.start l.marks l.steps l.late l.place;
-  made : length l.marks ≡ length l.fn.marks;
+  analysed : IsAnalysed l.propagator.clauses.items l.propagator.trail l.names l.conflict l.start l.marks.marked l.steps l.late l.place;
+  made : length l.marks.marked ≡ length l.fn.marks.marked;
 }

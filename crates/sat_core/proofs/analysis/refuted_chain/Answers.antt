@@ -16,8 +16,8 @@ loop-place-init c =
     let trail = c.args.propagator.now.trail in
     let clauses = c.args.propagator.now.clauses.items in
     record {
-      refuting = subst (λ (steps : List ChainStep). IsRefuting clauses trail c.args.names.now c.args.first c.args.among.now c.mark_all.new.marks steps c.len-place.result) (sym c.new-steps.ensures)
-          (refuting_start clauses trail c.args.names.now c.args.first c.args.among.now c.clear.new.self c.mark_all.new.marks c.len-place.result c.requires.falsified c.in_ok-clear.ensures.ok c.in_ok-mark_all.ensures.marks c.len-place.ensures.number);
+      refuting = subst (λ (steps : List ChainStep). IsRefuting clauses trail c.args.names.now c.args.first c.args.among.now c.mark_all.new.marks.marked steps c.len-place.result) (sym c.new-steps.ensures)
+          (refuting_start clauses trail c.args.names.now c.args.first c.args.among.now c.clear.new.self.marked c.mark_all.new.marks.marked c.len-place.result c.requires.falsified c.in_ok-clear.ensures.ok c.in_ok-mark_all.ensures.marks c.len-place.ensures.number);
       made = c.mark_all.ensures.made ∙ c.clear.ensures.made;
     }
 
@@ -40,8 +40,8 @@ pub mark_others-requires-clause-made : goal.mark_others-requires-clause-made
 mark_others-requires-clause-made c =
     let reason = (c.requires.right.reasoned (c.loop-place.place - 1) c.step-step.result c.step-step.ensures).forced c.in-Some.reason c.in-Some.is in
     let read : c.literals-literals.result.now ≡ reason.0.clause = c.literals-literals.ensures reason.0 reason.1 in
-    subst (λ (some : List SatLit). IsOver (length c.unmark.new.self) some) (sym read)
-    (over_more (length c.args.propagator.now.trail.phases) (length c.unmark.new.self) reason.0.clause (omega (arith, c.unmark.ensures.made, c.loop-place.invariant.made, c.requires.made)) (c.requires.right.over c.in-Some.reason reason.0 reason.1))
+    subst (λ (some : List SatLit). IsOver (length c.unmark.new.self.marked) some) (sym read)
+    (over_more (length c.args.propagator.now.trail.phases) (length c.unmark.new.self.marked) reason.0.clause (omega (arith, c.unmark.ensures.made, c.loop-place.invariant.made, c.requires.made)) (c.requires.right.over c.in-Some.reason reason.0 reason.1))
 
 pub name_of-requires : goal.name_of-requires
 name_of-requires c =
@@ -57,24 +57,24 @@ loop-place-preserved-in-Continue-branch-4 c =
     let read : c.literals-literals.result.now ≡ reason.0.clause = c.literals-literals.ensures reason.0 reason.1 in
     let t : SatLit = c.step-step.result.literal in
     record {
-      refuting = subst (λ (steps : List ChainStep). IsRefuting clauses trail c.args.names.now c.args.first c.args.among.now c.mark_others.new.marks steps (c.loop-place.place - 1)) (sym c.in_ok-push.ensures.ok)
-          (refuting_next clauses trail c.args.names.now c.args.first c.args.among.now c.loop-place.marks c.mark_others.new.marks c.loop-place.steps c.loop-place.place c.in-Some.reason
+      refuting = subst (λ (steps : List ChainStep). IsRefuting clauses trail c.args.names.now c.args.first c.args.among.now c.mark_others.new.marks.marked steps (c.loop-place.place - 1)) (sym c.in_ok-push.ensures.ok)
+          (refuting_next clauses trail c.args.names.now c.args.first c.args.among.now c.loop-place.marks.marked c.mark_others.new.marks.marked c.loop-place.steps c.loop-place.place c.in-Some.reason
           c.step-step.result reason.0 c.name_of.result c.loop-place.invariant.refuting c.len-place.ensures.right (omega (arith, c.loop-place-test.true)) c.step-step.ensures (sym c.contains.ensures ∙ c.if-contains.true)
           reason.1 reason.2 c.name_of.ensures
           (λ v. c.in_ok-_more.ensures.marks v
           ∙ ap (λ (b : Bool). b || mentions_variable (others (Some t) c.literals-literals.result.now) v) (c.unmark.ensures.marks v)
-          ∙ ap (λ (some : List SatLit). (is_marked c.loop-place.marks v && not (same_var v t.var)) || mentions_variable (others (Some t) some) v) read));
+          ∙ ap (λ (some : List SatLit). (is_marked c.loop-place.marks.marked v && not (same_var v t.var)) || mentions_variable (others (Some t) some) v) read));
       made = c.mark_others.ensures.made ∙ c.unmark.ensures.made ∙ c.loop-place.invariant.made;
     }
 
 pub loop-place-preserved : goal.loop-place-preserved
 loop-place-preserved c = record {
-  refuting = refuting_skip c.args.propagator.now.clauses.items c.args.propagator.now.trail c.args.names.now c.args.first c.args.among.now c.loop-place.marks c.loop-place.steps c.loop-place.place
+  refuting = refuting_skip c.args.propagator.now.clauses.items c.args.propagator.now.trail c.args.names.now c.args.first c.args.among.now c.loop-place.marks.marked c.loop-place.steps c.loop-place.place
       c.step-step.result c.loop-place.invariant.refuting c.step-step.ensures (sym c.contains.ensures ∙ c.if-contains.false);
   made = c.loop-place.invariant.made;
 }
 
 pub returns-clause-refuted : goal.returns-clause-refuted
 returns-clause-refuted c =
-    refuting_end c.args.propagator.now.clauses.items c.args.propagator.now.trail c.args.names.now c.args.first c.args.among.now c.loop-place.marks c.loop-place.steps c.loop-place.place
+    refuting_end c.args.propagator.now.clauses.items c.args.propagator.now.trail c.args.names.now c.args.first c.args.among.now c.loop-place.marks.marked c.loop-place.steps c.loop-place.place
     c.loop-place.invariant.refuting c.loop-place-test.false

@@ -9,5 +9,5 @@ returns-clause-learned c =
     let trail = c.args.propagator.now.trail in
     let clauses = c.args.propagator.now.clauses.items in
     let start = c.start-start.result in
-    shortening_learns clauses trail c.args.names.now c.loop-i.marks start c.loop-i.chain c.loop-i.invariant.shortening c.levels.ensures.right
+    shortening_learns clauses trail c.args.names.now c.loop-i.marks.marked start c.loop-i.chain c.loop-i.invariant.shortening c.levels.ensures.right
     (complete_at trail c.args.propagator.now.processed clauses c.args.propagator.now.lists start c.requires.right c.levels.ensures.right (contains_at trail.starts (c.levels.result - 1) start c.start-start.ensures.start))

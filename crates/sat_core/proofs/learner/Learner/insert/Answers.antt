@@ -22,9 +22,9 @@ returns-in_err-inserted-clause-learner c =
     let s = c.args.self.now in
     let after = c.insert.new.self in
     let same : texts after.clauses.items ≡ texts s.propagator.clauses.items = ap texts c.in_err-inserted.ensures.err in
-    subst (λ (names : List Premise). IsLearnerOf s.clauses s.log s.is_refuted after names s.marks s.inserted_clauses s.inserted_results) (sym c.reserve.ensures.items)
-    (learner_kept s.clauses s.log s.is_refuted s.propagator after s.names.items s.names.items s.marks s.marks s.inserted_clauses s.inserted_results
-    (ready_same s.clauses (results s.log) s.propagator after s.names.items s.marks c.insert.ensures.right c.insert.ensures.made same c.requires.learner.ready)
+    subst (λ (names : List Premise). IsLearnerOf s.clauses s.log s.is_refuted after names s.marks.marked s.inserted_clauses s.inserted_results) (sym c.reserve.ensures.items)
+    (learner_kept s.clauses s.log s.is_refuted s.propagator after s.names.items s.names.items s.marks.marked s.marks.marked s.inserted_clauses s.inserted_results
+    (ready_same s.clauses (results s.log) s.propagator after s.names.items s.marks.marked c.insert.ensures.right c.insert.ensures.made same c.requires.learner.ready)
     (Includes-same (texts s.propagator.clauses.items) (texts after.clauses.items) same) c.requires.learner)
 
 pub returns-then-inserted-clause-learner : goal.returns-then-inserted-clause-learner
@@ -33,10 +33,10 @@ returns-then-inserted-clause-learner c =
     let after = c.insert.new.self in
     let is : premise_clause s.clauses (results s.log) c.args.premise ≡ Some c.as_slice-clause.result.now = c.named.ensures ∙ ap Some (sym c.as_slice-clause.ensures) in
     let pushed : texts after.clauses.items ≡ texts s.propagator.clauses.items ++ c.as_slice-clause.result.now ∷ [] = c.in_ok-inserted.ensures.inserted c.if-inserted.true in
-    learner_kept s.clauses s.log s.is_refuted s.propagator after s.names.items c.push_reserved.new.self.items s.marks s.marks s.inserted_clauses s.inserted_results
-    (ready_pushed s.clauses (results s.log) s.propagator after c.reserve.new.self.items c.push_reserved.new.self.items s.marks c.args.premise c.as_slice-clause.result.now c.push_reserved.ensures.items
+    learner_kept s.clauses s.log s.is_refuted s.propagator after s.names.items c.push_reserved.new.self.items s.marks.marked s.marks.marked s.inserted_clauses s.inserted_results
+    (ready_pushed s.clauses (results s.log) s.propagator after c.reserve.new.self.items c.push_reserved.new.self.items s.marks.marked c.args.premise c.as_slice-clause.result.now c.push_reserved.ensures.items
     c.insert.ensures.right c.insert.ensures.made pushed is
-    (subst (λ (names : List Premise). IsNamedPropagator s.clauses (results s.log) s.propagator names s.marks) (sym c.reserve.ensures.items) c.requires.learner.ready))
+    (subst (λ (names : List Premise). IsNamedPropagator s.clauses (results s.log) s.propagator names s.marks.marked) (sym c.reserve.ensures.items) c.requires.learner.ready))
     (Includes-push (texts s.propagator.clauses.items) (texts after.clauses.items) c.as_slice-clause.result.now pushed) c.requires.learner
 
 pub returns-else-inserted-clause-learner : goal.returns-else-inserted-clause-learner
@@ -44,9 +44,9 @@ returns-else-inserted-clause-learner c =
     let s = c.args.self.now in
     let after = c.insert.new.self in
     let same : texts after.clauses.items ≡ texts s.propagator.clauses.items = ap texts (c.in_ok-inserted.ensures.refused c.if-inserted.false) in
-    subst (λ (names : List Premise). IsLearnerOf s.clauses s.log s.is_refuted after names s.marks s.inserted_clauses s.inserted_results) (sym c.reserve.ensures.items)
-    (learner_kept s.clauses s.log s.is_refuted s.propagator after s.names.items s.names.items s.marks s.marks s.inserted_clauses s.inserted_results
-    (ready_same s.clauses (results s.log) s.propagator after s.names.items s.marks c.insert.ensures.right c.insert.ensures.made same c.requires.learner.ready)
+    subst (λ (names : List Premise). IsLearnerOf s.clauses s.log s.is_refuted after names s.marks.marked s.inserted_clauses s.inserted_results) (sym c.reserve.ensures.items)
+    (learner_kept s.clauses s.log s.is_refuted s.propagator after s.names.items s.names.items s.marks.marked s.marks.marked s.inserted_clauses s.inserted_results
+    (ready_same s.clauses (results s.log) s.propagator after s.names.items s.marks.marked c.insert.ensures.right c.insert.ensures.made same c.requires.learner.ready)
     (Includes-same (texts s.propagator.clauses.items) (texts after.clauses.items) same) c.requires.learner)
 
 pub returns-else-inserted-clause-falsified : goal.returns-else-inserted-clause-falsified

@@ -23,9 +23,11 @@ loop-self-preserved c =
     let at_now : slice_get a.clauses a.inserted_clauses ≡ Some clause =
     ap (slice_get a.clauses) c.insert.ensures.inserted_clauses ∙ ap (λ (list : List (List SatLit)). slice_get list s.inserted_clauses) same.clauses_same ∙ at in
     record {
-      learner = learner_next_clause a.clauses a.log a.is_refuted a.propagator a.names.items a.marks a.inserted_clauses a.inserted_results clause at_now
+      learner = learner_next_clause a.clauses a.log a.is_refuted a.propagator a.names.items a.marks.marked a.inserted_clauses a.inserted_results clause at_now
           (pushed_there (texts s.propagator.clauses.items) (texts a.propagator.clauses.items) clause (c.in_ok-insert.ensures.inserted clause c.if-not-branch.false at)) c.insert.ensures.learner;
       same = IsUnlearned-trans c.args.self.now s _ c.loop-self.invariant.same (record { clauses_same = same.clauses_same; made_same = same.made_same; log_same = same.log_same; refuted_same = same.refuted_same });
+      more_clauses = omega (arith, c.loop-self.invariant.more_clauses, c.insert.ensures.inserted_clauses);
+      more_results = omega (arith, c.loop-self.invariant.more_results, c.insert.ensures.inserted_results);
     }
 
 pub insert-requires-in-loop-self-2-clause-there : goal.insert-requires-in-loop-self-2-clause-there
@@ -51,9 +53,11 @@ loop-self-2-preserved c =
     let at_now : slice_get (results a.log) a.inserted_results ≡ Some clause =
     ap (slice_get (results a.log)) c.insert-in-loop-self-2.ensures.inserted_results ∙ ap (λ (log : List LogEntry). slice_get (results log) s.inserted_results) same.log_same ∙ at in
     record {
-      learner = learner_next_result a.clauses a.log a.is_refuted a.propagator a.names.items a.marks a.inserted_clauses a.inserted_results clause at_now
+      learner = learner_next_result a.clauses a.log a.is_refuted a.propagator a.names.items a.marks.marked a.inserted_clauses a.inserted_results clause at_now
           (pushed_there (texts s.propagator.clauses.items) (texts a.propagator.clauses.items) clause (c.in_ok-insert-2.ensures.inserted clause c.if-not-branch-2.false at)) c.insert-in-loop-self-2.ensures.learner;
       same = IsUnlearned-trans c.args.self.now s _ c.loop-self-2.invariant.same (record { clauses_same = same.clauses_same; made_same = same.made_same; log_same = same.log_same; refuted_same = same.refuted_same });
+      more_clauses = omega (arith, c.loop-self-2.invariant.more_clauses, c.insert-in-loop-self-2.ensures.inserted_clauses);
+      more_results = omega (arith, c.loop-self-2.invariant.more_results, c.insert-in-loop-self-2.ensures.inserted_results);
       whole = omega (arith, c.loop-self-2.invariant.whole, c.insert-in-loop-self-2.ensures.inserted_clauses, ap (λ (list : List (List SatLit)). length list) same.clauses_same);
     }
 

@@ -24,16 +24,16 @@ returns-clause-learner c =
     let are : results after ≡ results s.log ++ learns.outcome ∷ [] =
     appended_results s.clauses s.log after c.args.chain learns.outcome (learns.derived s.clauses (results s.log) l.ready.named) c.in_ok-push.ensures.ok in
     let known : AreLearned s.clauses (results s.log) = subst (AreLearned s.clauses) (learned_open s.is_refuted (results s.log) c.requires.open) l.of_learned in
-    let ready : IsNamedPropagator s.clauses (results after) s.propagator s.names.items s.marks =
-    ready_appended s.clauses s.log after s.propagator s.names.items s.marks c.args.chain l.ready c.in_ok-push.ensures.ok in
+    let ready : IsNamedPropagator s.clauses (results after) s.propagator s.names.items s.marks.marked =
+    ready_appended s.clauses s.log after s.propagator s.names.items s.marks.marked c.args.chain l.ready c.in_ok-push.ensures.ok in
     let same : texts bumped.clauses.items ≡ texts s.propagator.clauses.items = ap texts c.bump.ensures.clauses in
-    learner_kept s.clauses after s.is_refuted s.propagator bumped s.names.items s.names.items s.marks s.marks s.inserted_clauses s.inserted_results
-    (ready_same s.clauses (results after) s.propagator bumped s.names.items s.marks
+    learner_kept s.clauses after s.is_refuted s.propagator bumped s.names.items s.names.items s.marks.marked s.marks.marked s.inserted_clauses s.inserted_results
+    (ready_same s.clauses (results after) s.propagator bumped s.names.items s.marks.marked
     (right_same s.propagator bumped c.bump.ensures.trail c.bump.ensures.processed c.bump.ensures.clauses c.bump.ensures.lists l.ready.right)
     (ap (λ (t : TrailState). length t.phases) c.bump.ensures.trail) same ready)
     (Includes-same (texts s.propagator.clauses.items) (texts bumped.clauses.items) same)
-    (learner_logged s.clauses s.log after s.is_refuted s.propagator s.names.items s.marks s.inserted_clauses s.inserted_results learns.outcome c.requires.open ready c.push.ensures.right are
-    (learned_more s.clauses (results s.log) s.propagator s.names.items s.marks learns.outcome l.ready known c.requires.included learns.new learns.once learns.occurring)
+    (learner_logged s.clauses s.log after s.is_refuted s.propagator s.names.items s.marks.marked s.inserted_clauses s.inserted_results learns.outcome c.requires.open ready c.push.ensures.right are
+    (learned_more s.clauses (results s.log) s.propagator s.names.items s.marks.marked learns.outcome l.ready known c.requires.included learns.new learns.once learns.occurring)
     (IsNew-fewer (s.clauses ++ results s.log) (texts s.propagator.clauses.items) learns.outcome c.requires.included learns.new) l)
 
 pub returns-clause-grew : goal.returns-clause-grew

@@ -23,8 +23,8 @@ returns-then-conflicts-budget-clause-learner c =
     let back = c.back_to.new.self in
     let l = c.analysed.ensures.learner in
     let same : texts back.clauses.items ≡ texts a.propagator.clauses.items = ap texts c.back_to.ensures.clauses in
-    learner_kept a.clauses a.log a.is_refuted a.propagator back a.names.items a.names.items a.marks a.marks a.inserted_clauses a.inserted_results
-    (ready_same a.clauses (results a.log) a.propagator back a.names.items a.marks c.back_to.ensures.right (ap (λ (list : List Bool). length list) c.back_to.ensures.phases) same l.ready)
+    learner_kept a.clauses a.log a.is_refuted a.propagator back a.names.items a.names.items a.marks.marked a.marks.marked a.inserted_clauses a.inserted_results
+    (ready_same a.clauses (results a.log) a.propagator back a.names.items a.marks.marked c.back_to.ensures.right (ap (λ (list : List Bool). length list) c.back_to.ensures.phases) same l.ready)
     (Includes-same (texts a.propagator.clauses.items) (texts back.clauses.items) same) l
 
 pub returns-then-conflicts-budget-clause-grew : goal.returns-then-conflicts-budget-clause-grew
@@ -45,7 +45,7 @@ returns-then-conflicts-budget-clause-answer c =
     ∙ sym c.conflicts-conflicts.ensures ∙ c.if-conflicts-budget.true in
     λ answer e. spent_answer c.args.budget (record { values = c.back_to.new.self.trail.phases; clauses = a.clauses; log = a.log; is_refuted = a.is_refuted }) c.conflicts-conflicts.result answer e (same.refuted_same ∙ c.requires.open)
     (spent_same s.clauses a.clauses s.log a.log c.args.budget c.conflicts-conflicts.result same.clauses_same same.log_same
-    (spent_of s.clauses (results s.log) s.propagator s.names.items s.marks c.args.conflict c.in_ok-chain.chain c.args.budget c.conflicts-conflicts.result c.requires.learner.ready c.levels.ensures.right
+    (spent_of s.clauses (results s.log) s.propagator s.names.items s.marks.marked c.args.conflict c.in_ok-chain.chain c.args.budget c.conflicts-conflicts.result c.requires.learner.ready c.levels.ensures.right
     c.requires.included c.requires.conflict (omega (arith, c.levels.ensures.number, c.if-levels-eq0.false)) known c.in_ok-chain.ensures.learned c.if-conflicts-budget.true counted))
 
 pub learn-requires-clause-included : goal.learn-requires-clause-included

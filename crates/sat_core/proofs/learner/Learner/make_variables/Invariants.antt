@@ -9,6 +9,8 @@ invariant-loop-self l = record {
   clauses : l.self.clauses ≡ l.fn.self.clauses;
   log : l.self.log ≡ l.fn.self.log;
   refuted : l.self.is_refuted ≡ l.fn.self.is_refuted;
+  inserted_clauses : l.self.inserted_clauses ≡ l.fn.self.inserted_clauses;
+  inserted_results : l.self.inserted_results ≡ l.fn.self.inserted_results;
 }
 
 abbrev pub decreases-loop-self : goal.decreases-loop-self

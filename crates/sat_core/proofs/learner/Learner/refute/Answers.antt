@@ -26,10 +26,10 @@ returns-in_err-chain-clause-grew c = Grew-same c.args.self.now _ refl refl refl
 pub returns-in_err-push-clause-learner : goal.returns-in_err-push-clause-learner
 returns-in_err-push-clause-learner c =
     let s = c.args.self.now in
-    let marks = c.refuted_chain.new.marks in
+    let marks = c.refuted_chain.new.marks.marked in
     subst (λ (log : List LogEntry). IsLearnerOf s.clauses log s.is_refuted s.propagator s.names.items marks s.inserted_clauses s.inserted_results) (sym c.in_err-push.ensures.err)
-    (learner_kept s.clauses s.log s.is_refuted s.propagator s.propagator s.names.items s.names.items s.marks marks s.inserted_clauses s.inserted_results
-    (ready_marks s.clauses (results s.log) s.propagator s.names.items s.marks marks (omega (arith, c.refuted_chain.ensures.made)) c.requires.learner.ready)
+    (learner_kept s.clauses s.log s.is_refuted s.propagator s.propagator s.names.items s.names.items s.marks.marked marks s.inserted_clauses s.inserted_results
+    (ready_marks s.clauses (results s.log) s.propagator s.names.items s.marks.marked marks (omega (arith, c.refuted_chain.ensures.made)) c.requires.learner.ready)
     (Includes-same (texts s.propagator.clauses.items) (texts s.propagator.clauses.items) refl) c.requires.learner)
 
 pub returns-in_err-push-clause-grew : goal.returns-in_err-push-clause-grew
@@ -46,7 +46,7 @@ returns-clause-last c =
 pub returns-clause-learner : goal.returns-clause-learner
 returns-clause-learner c =
     let s = c.args.self.now in
-    let marks = c.refuted_chain.new.marks in
+    let marks = c.refuted_chain.new.marks.marked in
     let after = c.push.new.self in
     let clause = c.named.result.now in
     let named : AreNamedPremises s.clauses (results s.log) c.as_slice.result.now s.propagator.clauses.items =
@@ -55,14 +55,14 @@ returns-clause-learner c =
     appended_results s.clauses s.log after c.in_ok-chain.chain []
     (c.in_ok-chain.ensures.refuted s.clauses (results s.log) named (c.named.ensures ∙ ap Some (sym c.as_slice-2.ensures))) c.in_ok-push.ensures.ok in
     let ready : IsNamedPropagator s.clauses (results s.log) s.propagator s.names.items marks =
-    ready_marks s.clauses (results s.log) s.propagator s.names.items s.marks marks (omega (arith, c.refuted_chain.ensures.made)) c.requires.learner.ready in
+    ready_marks s.clauses (results s.log) s.propagator s.names.items s.marks.marked marks (omega (arith, c.refuted_chain.ensures.made)) c.requires.learner.ready in
     learner_refuted s.clauses s.log after s.is_refuted s.propagator s.names.items marks s.inserted_clauses s.inserted_results c.requires.open
     (subst (λ (list : List (List SatLit)). IsNamedPropagator s.clauses list s.propagator s.names.items marks) (sym are)
     (ready_learned s.clauses (results s.log) s.propagator s.names.items marks [] ready))
     c.push.ensures.right are
-    (root_reaches_false s.clauses (results s.log) s.propagator s.names.items s.marks clause c.requires.learner.ready c.in_ok-chain.ensures.trail c.requires.root
+    (root_reaches_false s.clauses (results s.log) s.propagator s.names.items s.marks.marked clause c.requires.learner.ready c.in_ok-chain.ensures.trail c.requires.root
     (premise_among s.clauses (results s.log) c.args.premise clause c.named.ensures) (c.requires.falsified clause c.named.ensures))
-    (learner_kept s.clauses s.log s.is_refuted s.propagator s.propagator s.names.items s.names.items s.marks marks s.inserted_clauses s.inserted_results ready
+    (learner_kept s.clauses s.log s.is_refuted s.propagator s.propagator s.names.items s.names.items s.marks.marked marks s.inserted_clauses s.inserted_results ready
     (Includes-same (texts s.propagator.clauses.items) (texts s.propagator.clauses.items) refl) c.requires.learner)
 
 pub returns-clause-grew : goal.returns-clause-grew

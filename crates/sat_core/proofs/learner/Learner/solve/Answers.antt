@@ -16,12 +16,14 @@ loop-answer-init c =
     let wished = c.wish.new.self in
     let phases : length wished.trail.phases ≡ length s.propagator.trail.phases = ap (λ (t : TrailState). length t.phases) c.wish.ensures.trail in
     record {
-      learner = learner_same s.clauses s.log s.is_refuted s.propagator wished s.names.items s.marks s.inserted_clauses s.inserted_results
+      learner = learner_same s.clauses s.log s.is_refuted s.propagator wished s.names.items s.marks.marked s.inserted_clauses s.inserted_results
           (right_same s.propagator wished c.wish.ensures.trail c.wish.ensures.processed c.wish.ensures.clauses c.wish.ensures.lists c.requires.learner.ready.right)
           phases (ap texts c.wish.ensures.clauses) c.requires.learner;
       still_open = c.requires.open;
       within = c.requires.budget;
       grew = Grew-same s _ refl phases refl;
+      more_clauses = omega arith;
+      more_results = omega arith;
     }
 
 pub returns-in_err-answer-clause-grew : goal.returns-in_err-answer-clause-grew
@@ -37,11 +39,13 @@ loop-answer-preserved-then-is_due c =
     let still_open : a.is_refuted ≡ false = c.in_ok-answer.ensures.open c.in_default.is in
     let phases : length back.trail.phases ≡ length a.propagator.trail.phases = ap (λ (list : List Bool). length list) c.back_to.ensures.phases in
     record {
-      learner = learner_same a.clauses a.log a.is_refuted a.propagator back a.names.items a.marks a.inserted_clauses a.inserted_results
+      learner = learner_same a.clauses a.log a.is_refuted a.propagator back a.names.items a.marks.marked a.inserted_clauses a.inserted_results
           c.back_to.ensures.right phases (ap texts c.back_to.ensures.clauses) c.step.ensures.learner;
       still_open = still_open;
       within = omega (arith, c.step.ensures.within, ap (λ (list : List (List SatLit)). length list) (learned_open a.is_refuted (results a.log) still_open), length-map a.log (λ (entry : LogEntry). entry.result));
       grew = Grew-trans c.args.self.now a _ (Grew-trans c.args.self.now c.loop-answer.self a c.loop-answer.invariant.grew c.step.ensures.grew) (Grew-same a _ refl phases refl);
+      more_clauses = omega (arith, c.loop-answer.invariant.more_clauses, c.step.ensures.more_clauses);
+      more_results = omega (arith, c.loop-answer.invariant.more_results, c.step.ensures.more_results);
     }
 
 pub loop-answer-preserved : goal.loop-answer-preserved
@@ -53,4 +57,6 @@ loop-answer-preserved c =
       still_open = still_open;
       within = omega (arith, c.step.ensures.within, ap (λ (list : List (List SatLit)). length list) (learned_open a.is_refuted (results a.log) still_open), length-map a.log (λ (entry : LogEntry). entry.result));
       grew = Grew-trans c.args.self.now c.loop-answer.self a c.loop-answer.invariant.grew c.step.ensures.grew;
+      more_clauses = omega (arith, c.loop-answer.invariant.more_clauses, c.step.ensures.more_clauses);
+      more_results = omega (arith, c.loop-answer.invariant.more_results, c.step.ensures.more_results);
     }

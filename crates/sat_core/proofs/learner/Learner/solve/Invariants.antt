@@ -8,6 +8,8 @@ invariant-loop-answer l = record {
   still_open : l.self.is_refuted ≡ false;
   within : length l.self.log ≤ l.fn.budget;
   grew : GrewLearner l.fn.self l.self;
+  more_clauses : l.fn.self.inserted_clauses ≤ l.self.inserted_clauses;
+  more_results : l.fn.self.inserted_results ≤ l.self.inserted_results;
 }
 
 abbrev pub decreases-loop-answer : goal.decreases-loop-answer

@@ -18,7 +18,7 @@ refute-requires-clause-falsified c = λ clause is. c.in_ok-premise.ensures.falsi
 pub returns-in_err-search-clause-learner : goal.returns-in_err-search-clause-learner
 returns-in_err-search-clause-learner c =
     let a = c.insert_all.new.self in
-    learner_same a.clauses a.log a.is_refuted a.propagator c.search.new.self a.names.items a.marks a.inserted_clauses a.inserted_results
+    learner_same a.clauses a.log a.is_refuted a.propagator c.search.new.self a.names.items a.marks.marked a.inserted_clauses a.inserted_results
     c.search.ensures.right c.search.ensures.made c.search.ensures.texts c.insert_all.ensures.learner
 
 pub returns-in_err-search-clause-grew : goal.returns-in_err-search-clause-grew
@@ -29,7 +29,7 @@ returns-in_err-search-clause-grew c =
 pub learn_from-requires-clause-learner : goal.learn_from-requires-clause-learner
 learn_from-requires-clause-learner c =
     let a = c.insert_all.new.self in
-    learner_same a.clauses a.log a.is_refuted a.propagator c.search.new.self a.names.items a.marks a.inserted_clauses a.inserted_results
+    learner_same a.clauses a.log a.is_refuted a.propagator c.search.new.self a.names.items a.marks.marked a.inserted_clauses a.inserted_results
     c.search.ensures.right c.search.ensures.made c.search.ensures.texts c.insert_all.ensures.learner
 
 pub learn_from-requires-clause-included : goal.learn_from-requires-clause-included
@@ -40,7 +40,7 @@ learn_from-requires-clause-included c =
 pub returns-in-Full-clause-learner : goal.returns-in-Full-clause-learner
 returns-in-Full-clause-learner c =
     let a = c.insert_all.new.self in
-    learner_same a.clauses a.log a.is_refuted a.propagator c.search.new.self a.names.items a.marks a.inserted_clauses a.inserted_results
+    learner_same a.clauses a.log a.is_refuted a.propagator c.search.new.self a.names.items a.marks.marked a.inserted_clauses a.inserted_results
     c.search.ensures.right c.search.ensures.made c.search.ensures.texts c.insert_all.ensures.learner
 
 pub returns-in-Full-clause-grew : goal.returns-in-Full-clause-grew
