@@ -141,8 +141,8 @@ impl Learner {
     }
 
     /// Looks for values that make the clauses true, and learns at most so many clauses, those of earlier calls among
-    /// them. Variables are decided as the given values have them first.
-    pub fn solve(&mut self, budget: u64, values: &[bool]) -> Result<Answer, AllocError>
+    /// them.
+    pub fn solve(&mut self, budget: u64) -> Result<Answer, AllocError>
         requires learner { IsLearner self.old }
         requires over { AreOver (length self.old.propagator.trail.phases) self.old.clauses }
         requires open { self.old.is_refuted ≡ false }
@@ -156,7 +156,6 @@ impl Learner {
         ensures all_clauses { IfOk result (λ answer. answer ≢ Answer.Unsat → self.new.inserted_clauses ≡ length self.new.clauses) }
         ensures all_results { IfOk result (λ answer. answer ≢ Answer.Unsat → self.new.inserted_results ≡ length self.new.log) }
     {
-        self.propagator.wish(values);
         let mut restarts = Restarts::new();
         loop {
             if let Some(answer) = self.step(budget)? {

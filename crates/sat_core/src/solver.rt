@@ -104,7 +104,8 @@ impl Solver {
         }
         self.learner.make_variables(self.keeper.values.len())?;
         let values = self.keeper.values.as_slice();
-        let answer = self.learner.solve(budget, values)?;
+        self.learner.propagator.wish(values);
+        let answer = self.learner.solve(budget)?;
         if answer != Answer::Sat {
             return Ok(answer);
         }

@@ -1,5 +1,6 @@
 //! Which literals of a clause follow from its others.
-ghost use Rattle.std.specs.Prelude.{◌≡◌, ◌≤◌, ◌<◌, ℕ, [], length, IfSome, IfNone, OnOk};
+ghost use Rattle.std.specs.Prelude.{◌≡◌, ◌≤◌, ◌<◌, ℕ, [], length, IfSome, IfNone, OnOk, IsSorted};
+ghost use Rattle.std.specs.Ordering.{nat_cmp};
 ghost use Rattle.sat_core.specs.Internal.Reasons.{IsReasonOf, IsReasonClause};
 
 use crate::marks::Marks;
@@ -60,7 +61,9 @@ impl Spares {
         propagator: &Propagator,
         marks: &Marks,
         start: usize,
-    ) -> Result<(), AllocError> {
+    ) -> Result<(), AllocError>
+        ensures { OnOk result (IsSorted nat_cmp self.new.places.items) }
+    {
         self.restart(propagator.trail.variables())?;
         for var in marks.met() {
             let is_before = propagator

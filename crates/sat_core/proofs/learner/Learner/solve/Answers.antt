@@ -6,25 +6,17 @@ use Rattle.sat_log.specs.Chains.{results}
 use Rattle.sat_propagate.specs.Internal.Propagator.{texts}
 use Rattle.sat_core.proofs.LearnerLaws.{learned_open, Grew-same, Grew-trans}
 use Rattle.sat_core.proofs.LearnerSteps.{learner_same}
-use Rattle.sat_core.proofs.NameLaws.{right_same}
-use Rattle.sat_propagate.specs.Internal.Trail.{TrailState}
 use Rattle.sat_core.proofs.learner.Learner.solve.Goals as goal
 
 pub loop-answer-init : goal.loop-answer-init
-loop-answer-init c =
-    let s = c.args.self.now in
-    let wished = c.wish.new.self in
-    let phases : length wished.trail.phases ≡ length s.propagator.trail.phases = ap (λ (t : TrailState). length t.phases) c.wish.ensures.trail in
-    record {
-      learner = learner_same s.clauses s.log s.is_refuted s.propagator wished s.names.items s.marks.marked s.inserted_clauses s.inserted_results
-          (right_same s.propagator wished c.wish.ensures.trail c.wish.ensures.processed c.wish.ensures.clauses c.wish.ensures.lists c.requires.learner.ready.right)
-          phases (ap texts c.wish.ensures.clauses) c.requires.learner;
-      still_open = c.requires.open;
-      within = c.requires.budget;
-      grew = Grew-same s _ refl phases refl;
-      more_clauses = omega arith;
-      more_results = omega arith;
-    }
+loop-answer-init c = record {
+  learner = c.requires.learner;
+  still_open = c.requires.open;
+  within = c.requires.budget;
+  grew = Grew-same c.args.self.now c.args.self.now refl refl refl;
+  more_clauses = omega arith;
+  more_results = omega arith;
+}
 
 pub returns-in_err-answer-clause-grew : goal.returns-in_err-answer-clause-grew
 returns-in_err-answer-clause-grew c = Grew-trans c.args.self.now c.loop-answer.self c.step.new.self c.loop-answer.invariant.grew c.step.ensures.grew
