@@ -23,7 +23,9 @@ fn mark_one(trail: &Trail, marks: &mut Marks, var: Var, start: usize) -> Result<
     requires made { var.0 < length marks.old.marked }
     ensures marks { OnOk result ((v : Var) → is_marked marks.new.marked v ≡ (is_marked marks.old.marked v || same_var v var)) }
     ensures made { length marks.new.marked ≡ length marks.old.marked }
-    ensures counted { IfOk result (λ late. (late ≤ 1) × (late + how_many (marks_literal marks.old.marked) (drop start (literals trail.now.steps)) ≡ how_many (marks_literal marks.new.marked) (drop start (literals trail.now.steps)))) }
+    ensures counted { IfOk result
+        (λ late. (late ≤ 1) × (late + how_many (marks_literal marks.old.marked) (drop start (literals trail.now.steps)) ≡ how_many
+        (marks_literal marks.new.marked) (drop start (literals trail.now.steps)))) }
 {
     if marks.contains(var) {
         return Ok(0);
@@ -47,9 +49,11 @@ pub fn mark_others(
 ) -> Result<usize, AllocError>
     requires valued { (l : SatLit) → IsTrue (holds among.now l) → IsTrue (mentions_variable (literals trail.now.steps) l.var) }
     requires made { IsOver (length marks.old.marked) among.now }
-    ensures marks { OnOk result ((v : Var) → is_marked marks.new.marked v ≡ (is_marked marks.old.marked v || mentions_variable (others own among.now) v)) }
+    ensures marks { OnOk result
+        ((v : Var) → is_marked marks.new.marked v ≡ (is_marked marks.old.marked v || mentions_variable (others own among.now) v)) }
     ensures made { length marks.new.marked ≡ length marks.old.marked }
-    ensures counted { IfOk result (λ late. late + how_many (marks_literal marks.old.marked) (drop start (literals trail.now.steps)) ≡ how_many (marks_literal marks.new.marked) (drop start (literals trail.now.steps))) }
+    ensures counted { IfOk result (λ late. late + how_many (marks_literal marks.old.marked) (drop start (literals trail.now.steps))
+        ≡ how_many (marks_literal marks.new.marked) (drop start (literals trail.now.steps))) }
 {
     let mut late = 0;
     for packed in among {
@@ -65,7 +69,8 @@ pub fn mark_others(
 fn mark_all(trail: &Trail, marks: &mut Marks, among: &[SatLit]) -> Result<(), AllocError>
     requires valued { (l : SatLit) → IsTrue (holds among.now l) → IsTrue (mentions_variable (literals trail.now.steps) l.var) }
     requires made { IsOver (length marks.old.marked) among.now }
-    ensures marks { OnOk result ((v : Var) → is_marked marks.new.marked v ≡ (is_marked marks.old.marked v || mentions_variable (others None among.now) v)) }
+    ensures marks { OnOk result
+        ((v : Var) → is_marked marks.new.marked v ≡ (is_marked marks.old.marked v || mentions_variable (others None among.now) v)) }
     ensures made { length marks.new.marked ≡ length marks.old.marked }
 {
     for literal in among {
@@ -90,9 +95,12 @@ fn resolve_marks(
     requires own_marked { IsTrue (is_marked marks.old.marked own.var) }
     requires own_late { IsTrue (holds (drop start (literals trail.now.steps)) own) }
     requires counted { late ≡ how_many (marks_literal marks.old.marked) (drop start (literals trail.now.steps)) }
-    ensures marks { OnOk result ((v : Var) → is_marked marks.new.marked v ≡ ((is_marked marks.old.marked v && not (same_var v own.var)) || mentions_variable (others (Some own) reason.now) v)) }
+    ensures marks { OnOk result
+        ((v : Var) → is_marked marks.new.marked v ≡ ((is_marked marks.old.marked v && not (same_var v own.var)) || mentions_variable
+        (others (Some own) reason.now) v)) }
     ensures made { length marks.new.marked ≡ length marks.old.marked }
-    ensures counted { IfOk result (λ n. (n ≡ how_many (marks_literal marks.new.marked) (drop start (literals trail.now.steps))) × (late ≤ n + 1)) }
+    ensures counted { IfOk result (λ n. (n ≡ how_many (marks_literal marks.new.marked) (drop start (literals trail.now.steps)))
+        × (late ≤ n + 1)) }
 {
     let _len = trail.len();
     marks.unmark(own.var);
@@ -117,7 +125,8 @@ pub fn point_chain(
     requires last { slice_get propagator.now.trail.starts (length propagator.now.trail.starts - 1) ≡ Some start }
     requires named { length names.now ≡ length propagator.now.clauses.items }
     requires made { length propagator.now.trail.phases ≤ length marks.old.marked }
-    ensures shortening { IfOk result (λ chain. IsShortening propagator.now.clauses.items propagator.now.trail names.now marks.new.marked start chain) }
+    ensures shortening { IfOk result (λ chain. IsShortening propagator.now.clauses.items propagator.now.trail names.now marks.new.marked
+        start chain) }
     ensures made { length marks.new.marked ≡ length marks.old.marked }
 {
     let trail = &propagator.trail;
@@ -184,7 +193,9 @@ pub fn refuted_chain(
     requires over { IsOver (length propagator.now.trail.phases) among.now }
     requires named { length names.now ≡ length propagator.now.clauses.items }
     requires made { length propagator.now.trail.phases ≤ length marks.old.marked }
-    ensures refuted { IfOk result (λ chain. (store results : List (List SatLit)) → AreNamedPremises store results names.now propagator.now.clauses.items → premise_clause store results first ≡ Some among.now → chain_result store results chain ≡ Some []) }
+    ensures refuted { IfOk result (λ chain. (store results : List (List SatLit))
+        → AreNamedPremises store results names.now propagator.now.clauses.items → premise_clause store results first ≡ Some among.now
+        → chain_result store results chain ≡ Some []) }
     ensures trail { OnOk result (IsTrail propagator.now.trail) }
     ensures made { length marks.new.marked ≡ length marks.old.marked }
 {

@@ -259,7 +259,8 @@ fn only_false(
     requires within { bound ≤ length clauses.now }
     requires made { var.0 < length uses.now.ends }
     ensures inside { IfSome result (λ next. next < bound) }
-    ensures others { IfSome result (λ next. (k : ℕ) (clause : List SatLit) → IsUse uses.now var k → k < bound → k ≢ next → k ≢ n → slice_get clauses.now k ≡ Some clause → IsTrue (clause_value (assigned values.now) clause)) }
+    ensures others { IfSome result (λ next. (k : ℕ) (clause : List SatLit) → IsUse uses.now var k → k < bound → k ≢ next → k ≢ n
+        → slice_get clauses.now k ≡ Some clause → IsTrue (clause_value (assigned values.now) clause)) }
 {
     let mut found = n;
     let mut place = uses.first(var);
@@ -280,7 +281,8 @@ fn is_false_below(values: &[bool], clauses: &ClauseStore, k: usize, bound: usize
     requires over { AreOver (length values.now) clauses.now }
     requires within { bound ≤ length clauses.now }
     ensures inside { IsTrue result → k < bound }
-    ensures kept { result ≡ false → k < bound → (clause : List SatLit) → slice_get clauses.now k ≡ Some clause → IsTrue (clause_value (assigned values.now) clause) }
+    ensures kept { result ≡ false → k < bound → (clause : List SatLit) → slice_get clauses.now k ≡ Some clause
+        → IsTrue (clause_value (assigned values.now) clause) }
 {
     k < bound && !is_true(values, clauses.get(k).as_slice())
 }

@@ -239,9 +239,13 @@ impl Learner {
         requires open { self.old.is_refuted ≡ false }
         ensures learner { IsLearner self.new }
         ensures same { IsUnlearned self.old self.new }
-        ensures included { IfOk result (λ r. r ≡ None → Includes (self.new.clauses ++ results self.new.log) (texts self.new.propagator.clauses.items)) }
-        ensures there { IfOk result (λ r. (premise : Premise) → r ≡ Some premise → IsSome (premise_clause self.new.clauses (results self.new.log) premise)) }
-        ensures falsified { IfOk result (λ r. (premise : Premise) (clause : List SatLit) → r ≡ Some premise → premise_clause self.new.clauses (results self.new.log) premise ≡ Some clause → IsFalseIn (literals self.new.propagator.trail.steps) clause) }
+        ensures included { IfOk result (λ r. r ≡ None → Includes (self.new.clauses ++ results self.new.log)
+            (texts self.new.propagator.clauses.items)) }
+        ensures there { IfOk result (λ r. (premise : Premise) → r ≡ Some premise
+            → IsSome (premise_clause self.new.clauses (results self.new.log) premise)) }
+        ensures falsified { IfOk result (λ r. (premise : Premise) (clause : List SatLit) → r ≡ Some premise
+            → premise_clause self.new.clauses (results self.new.log) premise ≡ Some clause
+            → IsFalseIn (literals self.new.propagator.trail.steps) clause) }
         ensures root { IfOk result (λ r. (premise : Premise) → r ≡ Some premise → self.new.propagator.trail.starts ≡ []) }
         ensures more_clauses { self.old.inserted_clauses ≤ self.new.inserted_clauses }
         ensures more_results { self.old.inserted_results ≤ self.new.inserted_results }
@@ -275,8 +279,11 @@ impl Learner {
         ensures same { IsUnlearned self.old self.new }
         ensures inserted_clauses { self.new.inserted_clauses ≡ self.old.inserted_clauses }
         ensures inserted_results { self.new.inserted_results ≡ self.old.inserted_results }
-        ensures inserted { IfOk result (λ r. (clause : List SatLit) → r ≡ true → premise_clause self.old.clauses (results self.old.log) premise ≡ Some clause → texts self.new.propagator.clauses.items ≡ texts self.old.propagator.clauses.items ++ clause ∷ []) }
-        ensures falsified { IfOk result (λ r. (clause : List SatLit) → r ≡ false → premise_clause self.old.clauses (results self.old.log) premise ≡ Some clause → IsFalseIn (literals self.new.propagator.trail.steps) clause) }
+        ensures inserted { IfOk result (λ r. (clause : List SatLit) → r ≡ true → premise_clause self.old.clauses (results self.old.log)
+            premise ≡ Some clause → texts self.new.propagator.clauses.items ≡ texts self.old.propagator.clauses.items ++ clause ∷ []) }
+        ensures falsified { IfOk result (λ r. (clause : List SatLit) → r ≡ false
+            → premise_clause self.old.clauses (results self.old.log) premise ≡ Some clause
+            → IsFalseIn (literals self.new.propagator.trail.steps) clause) }
         ensures root { IfOk result (λ r. r ≡ false → self.new.propagator.trail.starts ≡ []) }
     {
         self.names.reserve(1)?;
@@ -295,7 +302,8 @@ impl Learner {
         requires decided { 0 < length self.old.propagator.trail.starts }
         ensures learner { IsLearner self.new }
         ensures same { IsUnlearned self.old self.new }
-        ensures learned { IfOk result (λ chain. Learns self.old.propagator.clauses.items self.old.propagator.trail self.old.names.items chain) }
+        ensures learned { IfOk result (λ chain. Learns self.old.propagator.clauses.items self.old.propagator.trail self.old.names.items
+            chain) }
         ensures propagator { self.new.propagator ≡ self.old.propagator }
         ensures names { self.new.names.items ≡ self.old.names.items }
         ensures inserted_clauses { self.new.inserted_clauses ≡ self.old.inserted_clauses }
@@ -341,7 +349,8 @@ impl Learner {
         requires over { AreOver (length self.old.propagator.trail.phases) self.old.clauses }
         requires open { self.old.is_refuted ≡ false }
         requires there { IsSome (premise_clause self.old.clauses (results self.old.log) premise) }
-        requires falsified { (clause : List SatLit) → premise_clause self.old.clauses (results self.old.log) premise ≡ Some clause → IsFalseIn (literals self.old.propagator.trail.steps) clause }
+        requires falsified { (clause : List SatLit) → premise_clause self.old.clauses (results self.old.log) premise ≡ Some clause
+            → IsFalseIn (literals self.old.propagator.trail.steps) clause }
         requires root { self.old.propagator.trail.starts ≡ [] }
         ensures learner { IsLearner self.new }
         ensures clauses { self.new.clauses ≡ self.old.clauses }

@@ -56,7 +56,8 @@ fn shorten(
     requires named { length names.now ≡ length propagator.now.clauses.items }
     requires shortening { IsShortening propagator.now.clauses.items propagator.now.trail names.now marks.old.marked start chain.old }
     requires made { length propagator.now.trail.phases ≤ length marks.old.marked }
-    ensures shortening { OnOk result (IsShortening propagator.now.clauses.items propagator.now.trail names.now marks.new.marked start chain.new) }
+    ensures shortening { OnOk result (IsShortening propagator.now.clauses.items propagator.now.trail names.now marks.new.marked start
+        chain.new) }
     ensures made { length marks.new.marked ≡ length marks.old.marked }
 {
     let trail = &propagator.trail;

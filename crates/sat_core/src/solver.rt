@@ -91,8 +91,10 @@ impl Solver {
         ensures propagated { IfOk result (λ answer. answer ≡ Answer.Unsat → ReachesFalse (self.new.clauses ++ learned self.new) []) }
         ensures reported { IfOk result (λ answer. (conflicts : ℕ) → answer ≡ Answer.Spent conflicts → conflicts ≡ budget) }
         ensures counted { IfOk result (λ answer. (conflicts : ℕ) → answer ≡ Answer.Spent conflicts → length (learned self.new) ≡ budget) }
-        ensures failing { IfOk result (λ answer. (conflicts : ℕ) → answer ≡ Answer.Spent conflicts → (decisions : List SatLit) × AreFailingDecisions (self.new.clauses ++ learned self.new) decisions) }
-        ensures enough { IfOk result (λ answer. (conflicts : ℕ) (variables : List Var) → AreAmong variables self.new.clauses → 3 ^ length variables ≤ budget → answer ≢ Answer.Spent conflicts) }
+        ensures failing { IfOk result (λ answer. (conflicts : ℕ) → answer ≡ Answer.Spent conflicts → (decisions : List SatLit)
+            × AreFailingDecisions (self.new.clauses ++ learned self.new) decisions) }
+        ensures enough { IfOk result (λ answer. (conflicts : ℕ) (variables : List Var) → AreAmong variables self.new.clauses
+            → 3 ^ length variables ≤ budget → answer ≢ Answer.Spent conflicts) }
         ensures grows { SolverGrows self.old self.new }
         ensures within { length (learned self.new) ≤ budget }
     {

@@ -72,7 +72,8 @@ impl Uses {
 
     /// The use at a place, if there is one.
     pub fn at(&self, place: u32) -> Option<Use>
-        ensures each { IfSome result (λ entry. (k : ℕ) → IsListed self.now.uses place k → (k ≡ entry.clause) ⊎ IsListed self.now.uses entry.next k) }
+        ensures each { IfSome result (λ entry. (k : ℕ) → IsListed self.now.uses place k
+            → (k ≡ entry.clause) ⊎ IsListed self.now.uses entry.next k) }
         ensures within { IfSome result (λ entry. place < length self.now.uses) }
         ensures onward { IfSome result (λ entry. place < entry.next) }
         ensures none { IfNone result ((k : ℕ) → ¬ IsListed self.now.uses place k) }
