@@ -1,5 +1,5 @@
 -- The clauses of a table.
-use Rattle.std.proofs.Common.{◌≡◌, ◌<◌, true, ltb, get_or, ◌≤◌, ◌+◌, ℕ, zero, suc, List, [], ◌∷◌, ◌++◌, Some, length, take, drop, refl, sym, ap, ap₂, ◌∙◌, subst, arith, length-append, length-drop}
+use Rattle.std.proofs.Common.{◌≡◌, ◌<◌, true, false, ltb, get_or, ◌≤◌, ◌+◌, ℕ, zero, suc, List, [], ◌∷◌, ◌++◌, Some, length, take, drop, refl, sym, ap, ap₂, ◌∙◌, subst, arith, length-append, length-drop}
 use Rattle.std.specs.List.{slice_get}
 use Rattle.std.specs.Option.{option_map}
 use Rattle.std.proofs.lemmas.List.{take-append-le, drop-append-le, take_all, map-append, length-map}
@@ -7,6 +7,7 @@ use Rattle.std.proofs.Math.Seq.{drop-append_seam}
 use Rattle.std.proofs.lemmas.List.Elements.{All-weaker, All-head, All-tail, All-cons, All-push}
 use Rattle.std.proofs.lemmas.Option.{slice_get-map, slice_get-get_or, slice_get_within, same_Some}
 use Rattle.std.proofs.lemmas.Bool.{ltb-true}
+use Rattle.std.proofs.lemmas.Bool.Decides.{nat_tests}
 use Rattle.sat_base.specs.declared.literal.SatLit.{SatLit}
 use Rattle.sat_propagate.specs.Internal.ClauseTable.{Watched, Clauses, with_head, all_headed, AreHeads, AreNear, IsClauseTable}
 use Rattle.sat_propagate.specs.declared.clause_table.Head.{Head}
@@ -117,3 +118,14 @@ headed-there now literals heads n head old viewed is at =
 pub same_watched : (clause : List SatLit) (a b first second : SatLit) → a ≡ first → b ≡ second
     → record { clause = clause; first = a; second = b } ≡ (let w : Watched = record { clause = clause; first = first; second = second } in w)
 same_watched clause a b first second is_first is_second = ap₂ (λ (l m : SatLit). let w : Watched = record { clause = clause; first = l; second = m } in w) is_first is_second
+
+not_below : (n m : ℕ) → false ≡ ltb n m → n < m → ⊥
+not_below n m test below = grind (arith, nat_tests)
+
+-- where there is no head, there is no clause
+pub headed-none : (now : Clauses) (literals : List SatLit) (heads some : List Head) (n : ℕ) (watched : Watched) → record { items = all_headed literals heads } ≡ now → some ≡ heads
+    → false ≡ ltb n (length some) → slice_get now.items n ≡ Some watched → ⊥
+headed-none now literals heads some n watched viewed same test at =
+    let there : slice_get (all_headed literals heads) n ≡ Some watched = ap (λ (t : Clauses). slice_get t.items n) viewed ∙ at in
+    let within : n < length heads = omega (arith, slice_get_within (all_headed literals heads) n watched there, length-map heads (with_head literals)) in
+    not_below n (length some) test (subst (λ (list : List Head). n < length list) (sym same) within)

@@ -10,3 +10,5 @@ pub mod BackLaws
 pub mod InsertLaws
 pub mod DetachLaws
 pub mod ForcedLaws
+pub mod DeciderLaws
+pub mod RecentLaws

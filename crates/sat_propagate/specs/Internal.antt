@@ -5,3 +5,5 @@ pub mod Insertion
 pub mod Finding
 pub mod Trail
 pub mod ClauseTable
+pub mod Decider
+pub mod Recent

@@ -193,7 +193,10 @@ impl ClauseTable {
     }
 
     /// Whether a clause names one literal twice, and so watches none.
-    pub fn is_detached(&self, n: usize) -> bool {
+    pub fn is_detached(&self, n: usize) -> bool
+        ensures yes { IsTrue result → (watched : Watched) × (slice_get self.now.items n ≡ Some watched) × (watched.first ≡ watched.second) }
+        ensures no { result ≡ false → (watched : Watched) → slice_get self.now.items n ≡ Some watched → watched.first ≢ watched.second }
+    {
         match self.heads.get(n) {
             Some(head) => head.first.is(head.second),
             None => false,

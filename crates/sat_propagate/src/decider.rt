@@ -1,7 +1,7 @@
 //! The order in which variables are proposed for decisions.
-ghost use Rattle.std.specs.Prelude.{◌≡◌, ◌<◌, false, length, IfSome};
-ghost use Rattle.sat_base.specs.Literal.{mentions_variable};
-ghost use Rattle.sat_propagate.specs.Internal.Trail.{literals};
+ghost use Rattle.std.specs.Prelude.{◌≡◌, ◌+◌, ◌<◌, [], ◌∷◌, ◌++◌, ◌≢◌, Some, None, List, false, length, slice_get, slice_set, slice_index_or, IfSome, IfNone, OnOk, OnErr};
+ghost use Rattle.sat_base.specs.declared.literal.Var.{Var};
+ghost use Rattle.sat_propagate.specs.Internal.Decider.{wished_signs, wished, next_gain, IsOpenVariable};
 
 use crate::trail::Trail;
 use sat_base::Var;
@@ -36,7 +36,13 @@ const GROWTH: u64 = 20;
 const HEIGHT: usize = 64;
 
 impl Decider {
-    pub fn new(alloc: Global) -> Self {
+    ghost use Rattle.sat_propagate.specs.declared.decider.Standing.{Standing};
+
+    pub fn new(alloc: Global) -> Self
+        ensures heap { result.heap.items ≡ [] }
+        ensures standings { result.standings.items ≡ [] }
+        ensures gain { result.gain ≡ 65536 }
+    {
         Decider {
             heap: Vec::new(alloc),
             standings: Vec::new(alloc),
@@ -44,7 +50,11 @@ impl Decider {
         }
     }
 
-    pub fn add_variable(&mut self) -> Result<(), AllocError> {
+    pub fn add_variable(&mut self) -> Result<(), AllocError>
+        ensures gain { self.new.gain ≡ self.old.gain }
+        ensures ok { OnOk result (wished_signs self.new.standings.items ≡ wished_signs self.old.standings.items ++ false ∷ []) }
+        ensures err { OnErr result (self.new.standings.items ≡ self.old.standings.items) }
+    {
         let var = Var(self.standings.len());
         self.standings.push(Standing {
             score: 0,
@@ -56,7 +66,10 @@ impl Decider {
     }
 
     /// A conflict was met in which these variables took part. Later ones count more.
-    pub fn advance(&mut self, variables: &[Var]) {
+    pub fn advance(&mut self, variables: &[Var])
+        ensures gain { self.new.gain ≡ next_gain self.old.gain }
+        ensures signs { wished_signs self.new.standings.items ≡ wished_signs self.old.standings.items }
+    {
         self.gain = self.gain.saturating_add(self.gain / GROWTH);
         if self.gain > MOST_GAIN {
             self.rescale();
@@ -66,9 +79,13 @@ impl Decider {
         }
     }
 
-    fn bump(&mut self, var: Var) {
+    fn bump(&mut self, var: Var)
+        ensures gain { self.new.gain ≡ self.old.gain }
+        ensures signs { wished_signs self.new.standings.items ≡ wished_signs self.old.standings.items }
+    {
         let gain = self.gain;
-        if let Some(standing) = self.standings.get_mut(var.0) {
+        if var.0 < self.standings.len() {
+            let standing = &mut self.standings[var.0];
             standing.score = standing.score.saturating_add(gain);
             if let Some(place) = standing.place {
                 self.rise(var, place);
@@ -76,9 +93,13 @@ impl Decider {
         }
     }
 
-    fn rescale(&mut self) {
+    fn rescale(&mut self)
+        ensures gain { self.new.gain ≡ 65536 }
+        ensures signs { wished_signs self.new.standings.items ≡ wished_signs self.old.standings.items }
+    {
         self.gain = FIRST_GAIN;
-        for standing in self.standings.iter_mut() {
+        for v in 0..self.standings.len() {
+            let standing = &mut self.standings[v];
             standing.score /= MOST_GAIN / FIRST_GAIN;
         }
         for place in (0..self.heap.len()).rev() {
@@ -89,7 +110,11 @@ impl Decider {
     }
 
     /// A variable is open again. Where there is no memory it is not proposed.
-    pub fn propose(&mut self, var: Var) {
+    pub fn propose(&mut self, var: Var)
+        ensures kept { (standing : Standing) → slice_get self.old.standings.items var.0 ≡ Some standing → standing.place ≢ None → self.new ≡ self.old }
+        ensures gain { self.new.gain ≡ self.old.gain }
+        ensures signs { wished_signs self.new.standings.items ≡ wished_signs self.old.standings.items }
+    {
         if self.place(var).is_some() {
             return;
         }
@@ -101,7 +126,11 @@ impl Decider {
 
     /// The next proposal of a variable without a value.
     pub fn next(&mut self, trail: &Trail) -> Option<Var>
-        ensures { IfSome result (λ v. (v.0 < length trail.now.phases) × (mentions_variable (literals trail.now.steps) v ≡ false)) }
+        ensures open { IfSome result (λ v. IsOpenVariable trail.now v) }
+        ensures first { (v : Var) (rest : List Var) → self.old.heap.items ≡ v ∷ rest → IsOpenVariable trail.now v → result ≡ Some v }
+        ensures none { IfNone result (self.new.heap.items ≡ []) }
+        ensures gain { self.new.gain ≡ self.old.gain }
+        ensures signs { wished_signs self.new.standings.items ≡ wished_signs self.old.standings.items }
     {
         for _ in 0..self.heap.len() {
             let var = self.pop()?;
@@ -113,7 +142,13 @@ impl Decider {
     }
 
     /// Takes the first variable out of the heap. The last one is sorted in from its place.
-    fn pop(&mut self) -> Option<Var> {
+    fn pop(&mut self) -> Option<Var>
+        ensures first { (v : Var) (rest : List Var) → self.old.heap.items ≡ v ∷ rest → result ≡ Some v }
+        ensures some { IfSome result (λ v. length self.new.heap.items + 1 ≡ length self.old.heap.items) }
+        ensures none { IfNone result (self.new.heap.items ≡ []) }
+        ensures gain { self.new.gain ≡ self.old.gain }
+        ensures signs { wished_signs self.new.standings.items ≡ wished_signs self.old.standings.items }
+    {
         let last = self.heap.pop()?;
         let Some(first) = self.heap.first().copied() else {
             self.set_place(last, None);
@@ -125,39 +160,61 @@ impl Decider {
     }
 
     /// The value that a variable is given where it is decided.
-    pub fn sign(&self, var: Var) -> bool {
+    pub fn sign(&self, var: Var) -> bool
+        ensures { result ≡ slice_index_or (wished_signs self.now.standings.items) var.0 false }
+    {
         match self.standings.get(var.0) {
             Some(standing) => standing.sign,
             None => false,
         }
     }
 
-    pub fn wish(&mut self, var: Var, sign: bool) {
-        if let Some(standing) = self.standings.get_mut(var.0) {
+    pub fn wish(&mut self, var: Var, sign: bool)
+        ensures gain { self.new.gain ≡ self.old.gain }
+        ensures heap { self.new.heap.items ≡ self.old.heap.items }
+        ensures signs { wished_signs self.new.standings.items ≡ slice_set (wished_signs self.old.standings.items) var.0 sign }
+    {
+        if var.0 < self.standings.len() {
+            let standing = &mut self.standings[var.0];
             standing.sign = sign;
         }
     }
 
     /// Wishes a value for each variable.
-    pub fn wish_all(&mut self, signs: &[bool]) {
+    pub fn wish_all(&mut self, signs: &[bool])
+        ensures gain { self.new.gain ≡ self.old.gain }
+        ensures heap { self.new.heap.items ≡ self.old.heap.items }
+        ensures signs { wished_signs self.new.standings.items ≡ wished (wished_signs self.old.standings.items) signs.now }
+    {
         for v in 0..signs.len() {
             self.wish(Var(v), signs[v]);
         }
     }
 
-    fn place(&self, var: Var) -> Option<usize> {
+    fn place(&self, var: Var) -> Option<usize>
+        ensures { (standing : Standing) → slice_get self.now.standings.items var.0 ≡ Some standing → result ≡ standing.place }
+    {
         self.standings.get(var.0)?.place
     }
 
-    fn set_place(&mut self, var: Var, place: Option<usize>) {
-        if let Some(standing) = self.standings.get_mut(var.0) {
+    fn set_place(&mut self, var: Var, place: Option<usize>)
+        ensures gain { self.new.gain ≡ self.old.gain }
+        ensures heap { self.new.heap.items ≡ self.old.heap.items }
+        ensures signs { wished_signs self.new.standings.items ≡ wished_signs self.old.standings.items }
+    {
+        if var.0 < self.standings.len() {
+            let standing = &mut self.standings[var.0];
             standing.place = place;
         }
     }
 
-    fn put(&mut self, var: Var, place: usize) {
-        if let Some(slot) = self.heap.get_mut(place) {
-            *slot = var;
+    fn put(&mut self, var: Var, place: usize)
+        ensures length { length self.new.heap.items ≡ length self.old.heap.items }
+        ensures gain { self.new.gain ≡ self.old.gain }
+        ensures signs { wished_signs self.new.standings.items ≡ wished_signs self.old.standings.items }
+    {
+        if place < self.heap.len() {
+            self.heap[place] = var;
         }
         self.set_place(var, Some(place));
     }
@@ -176,7 +233,11 @@ impl Decider {
     }
 
     /// Puts a variable at a place of the heap or above, those that it comes before below it.
-    fn rise(&mut self, var: Var, place: usize) {
+    fn rise(&mut self, var: Var, place: usize)
+        ensures length { length self.new.heap.items ≡ length self.old.heap.items }
+        ensures gain { self.new.gain ≡ self.old.gain }
+        ensures signs { wished_signs self.new.standings.items ≡ wished_signs self.old.standings.items }
+    {
         let mut at = place;
         for _ in 0..HEIGHT {
             let Some(before) = at.checked_sub(1) else {
@@ -196,7 +257,11 @@ impl Decider {
     }
 
     /// Puts a variable at a place of the heap or below, those that come before it above it.
-    fn sink(&mut self, var: Var, place: usize) {
+    fn sink(&mut self, var: Var, place: usize)
+        ensures length { length self.new.heap.items ≡ length self.old.heap.items }
+        ensures gain { self.new.gain ≡ self.old.gain }
+        ensures signs { wished_signs self.new.standings.items ≡ wished_signs self.old.standings.items }
+    {
         let mut at = place;
         for _ in 0..HEIGHT {
             let Some(lower) = self.lower(at) else {

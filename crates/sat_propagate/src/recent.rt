@@ -1,5 +1,9 @@
 //! The clauses that were learned last.
 
+ghost use Rattle.std.specs.Prelude.{◌≡◌, [], OnOk};
+ghost use Rattle.std.specs.List.{Contains};
+ghost use Rattle.sat_propagate.specs.Internal.Recent.{AppendsOf};
+
 use crate::packed::Packed;
 use std::alloc::{AllocError, Global};
 
@@ -46,7 +50,11 @@ pub struct Recent {
 }
 
 impl Recent {
-    pub fn new(alloc: Global) -> Self {
+    pub fn new(alloc: Global) -> Self
+        ensures blocks { result.blocks.items ≡ [] }
+        ensures clauses { result.clauses.items ≡ [] }
+        ensures next { result.next ≡ 0 }
+    {
         Recent {
             blocks: Vec::new(alloc),
             clauses: Vec::new(alloc),
@@ -55,12 +63,16 @@ impl Recent {
     }
 
     /// Appends those of the clauses to a list that a new one may be a part of, and keeps this one too.
+    #[tactic(auto, using(crate::proofs::RecentLaws::appends_none, crate::proofs::RecentLaws::appends_more))]
     pub fn find_covered(
         &mut self,
         new: usize,
         literals: &[Packed],
         found: &mut Vec<usize>,
-    ) -> Result<(), AllocError> {
+    ) -> Result<(), AllocError>
+        ensures found { AppendsOf self.old.clauses.items found.old.items found.new.items }
+        ensures kept { OnOk result (Contains self.new.clauses.items new) }
+    {
         let bits = bits_of(literals);
         for at in 0..self.blocks.len() {
             if self.blocks[at].has(bits) {
@@ -71,43 +83,62 @@ impl Recent {
     }
 
     /// Appends the clauses of a block that have all of these bits to a list.
-    fn find_in_block(
-        &self,
-        at: usize,
-        bits: u64,
-        found: &mut Vec<usize>,
-    ) -> Result<(), AllocError> {
+    #[tactic(auto, using(crate::proofs::RecentLaws::appends_none))]
+    fn find_in_block(&self, at: usize, bits: u64, found: &mut Vec<usize>) -> Result<(), AllocError>
+        ensures { AppendsOf self.now.clauses.items found.old.items found.new.items }
+    {
         let Some(block) = self.blocks.get(at) else {
             return Ok(());
         };
-        let numbers = self.clauses.iter().skip(at.wrapping_mul(BLOCK));
-        for (absent, clause) in block.absent.iter().zip(numbers) {
-            if bits & *absent == 0 {
-                found.push(*clause)?;
+        let start = at.wrapping_mul(BLOCK);
+        for i in 0..BLOCK {
+            if bits & block.absent[i] == 0 {
+                self.find(start.wrapping_add(i), found)?;
             }
         }
         Ok(())
     }
 
+    /// Appends the clause at a place to a list, if there is one.
+    #[tactic(auto, using(crate::proofs::RecentLaws::appends_none, crate::proofs::RecentLaws::appends_one, crate::proofs::RecentLaws::contained))]
+    fn find(&self, place: usize, found: &mut Vec<usize>) -> Result<(), AllocError>
+        ensures { AppendsOf self.now.clauses.items found.old.items found.new.items }
+    {
+        if let Some(clause) = self.clauses.get(place) {
+            found.push(*clause)?;
+        }
+        Ok(())
+    }
+
     /// Keeps a clause, in the place of the oldest one where there is no room.
-    fn keep(&mut self, clause: usize, absent: u64) -> Result<(), AllocError> {
+    fn keep(&mut self, clause: usize, absent: u64) -> Result<(), AllocError>
+        ensures { OnOk result (Contains self.new.clauses.items clause) }
+    {
         let at = self.next / BLOCK;
         let slot = self.next % BLOCK;
         if at >= self.blocks.len() {
             self.blocks.push(Block::EMPTY)?;
         }
-        if self.next >= self.clauses.len() {
-            self.clauses.push(clause)?;
-        }
-        if let Some(number) = self.clauses.get_mut(self.next) {
-            *number = clause;
-        }
+        store(&mut self.clauses, self.next, clause)?;
         if let Some(block) = self.blocks.get_mut(at) {
             block.absent[slot] = absent;
         }
         self.next = self.next.wrapping_add(1) % (MOST * BLOCK);
         Ok(())
     }
+}
+
+/// Puts a number at a place of a list, at its end where it has no such place.
+#[tactic(auto, using(crate::proofs::RecentLaws::contains_written, crate::proofs::RecentLaws::contains_last))]
+fn store(numbers: &mut Vec<usize>, place: usize, number: usize) -> Result<(), AllocError>
+    ensures { OnOk result (Contains numbers.new.items number) }
+{
+    if place < numbers.len() {
+        numbers[place] = number;
+        return Ok(());
+    }
+    numbers.push(number)?;
+    Ok(())
 }
 
 /// The bits of some literals.

@@ -1,0 +1,15 @@
+use Rattle.std.proofs.Common.{◌≡◌}
+use Rattle.sat_propagate.specs.Internal.Decider.{wished_signs}
+use Rattle.sat_propagate.proofs.decider.Decider.rescale.Given as goal
+
+abbrev pub invariant-loop-v : goal.invariant-loop-v
+invariant-loop-v l = record {
+  gain : l.self.gain ≡ 65536;
+  signs : wished_signs l.self.standings.items ≡ wished_signs l.fn.self.standings.items;
+}
+
+abbrev pub invariant-loop-place : goal.invariant-loop-place
+invariant-loop-place l = record {
+  gain : l.self.gain ≡ 65536;
+  signs : wished_signs l.self.standings.items ≡ wished_signs l.fn.self.standings.items;
+}
