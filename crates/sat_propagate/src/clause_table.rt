@@ -40,7 +40,8 @@ impl Head {
     fn replace(&mut self, from: Packed, to: Packed)
         ensures place { (self.new.start ≡ self.old.start) × (self.new.len ≡ self.old.len) }
         ensures near { self.new.near ≡ self.old.near }
-        ensures pair { (literals : List SatLit) (other : SatLit) → IsPair (with_head literals self.old) from other → IsPair (with_head literals self.new) to other }
+        ensures pair { (literals : List SatLit) (other : SatLit) → IsPair (with_head literals self.old) from other
+            → IsPair (with_head literals self.new) to other }
     {
         let kept = if self.first.is(from) {
             self.second
@@ -118,7 +119,8 @@ impl ClauseTable {
     /// A watched literal of a clause: the other one, where the clause watches this one. None where it watches none, or there is no
     /// such clause.
     pub fn other(&self, n: usize, literal: Packed) -> Option<Packed>
-        ensures some { IfSome result (λ l. (watched : Watched) × (slice_get self.now.items n ≡ Some watched) × (watched.first ≢ watched.second) × IsBeside watched literal l) }
+        ensures some { IfSome result (λ l. (watched : Watched) × (slice_get self.now.items n ≡ Some watched)
+            × (watched.first ≢ watched.second) × IsBeside watched literal l) }
         ensures none { IfNone result ((watched : Watched) → slice_get self.now.items n ≡ Some watched → watched.first ≡ watched.second) }
     {
         let head = self.heads.get(n)?;
@@ -133,7 +135,8 @@ impl ClauseTable {
     pub fn watches(&self, n: usize, literal: Packed) -> bool
         requires { n < length self.now.items }
         ensures yes { IsTrue result → (watched : Watched) → slice_get self.now.items n ≡ Some watched → Watches watched literal }
-        ensures no { result ≡ false → (watched : Watched) → slice_get self.now.items n ≡ Some watched → (watched.first ≢ literal) × (watched.second ≢ literal) }
+        ensures no { result ≡ false → (watched : Watched) → slice_get self.now.items n ≡ Some watched → (watched.first ≢ literal)
+            × (watched.second ≢ literal) }
     {
         let head = &self.heads[n];
         head.first.is(literal) || head.second.is(literal)
@@ -142,7 +145,8 @@ impl ClauseTable {
     /// The other watched literal of a clause that watches this one.
     pub fn other_than(&self, n: usize, literal: Packed) -> Packed
         requires { n < length self.now.items }
-        ensures { (watched : Watched) → slice_get self.now.items n ≡ Some watched → Watches watched literal → IsPair watched literal result }
+        ensures { (watched : Watched) → slice_get self.now.items n ≡ Some watched → Watches watched literal
+            → IsPair watched literal result }
     {
         let head = &self.heads[n];
         if head.first.is(literal) {
@@ -186,7 +190,8 @@ impl ClauseTable {
     /// A clause watches a literal in place of another one.
     pub fn replace(&mut self, n: usize, from: Packed, to: Packed)
         requires { n < length self.old.items }
-        ensures { (old : Watched) (other : SatLit) → slice_get self.old.items n ≡ Some old → IsPair old from other → Rewatched self.old.items self.new.items n from to other }
+        ensures { (old : Watched) (other : SatLit) → slice_get self.old.items n ≡ Some old → IsPair old from other
+            → Rewatched self.old.items self.new.items n from to other }
     {
         let head = &mut self.heads[n];
         head.replace(from, to);

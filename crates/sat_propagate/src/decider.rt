@@ -111,7 +111,8 @@ impl Decider {
 
     /// A variable is open again. Where there is no memory it is not proposed.
     pub fn propose(&mut self, var: Var)
-        ensures kept { (standing : Standing) → slice_get self.old.standings.items var.0 ≡ Some standing → standing.place ≢ None → self.new ≡ self.old }
+        ensures kept { (standing : Standing) → slice_get self.old.standings.items var.0 ≡ Some standing → standing.place ≢ None
+            → self.new ≡ self.old }
         ensures gain { self.new.gain ≡ self.old.gain }
         ensures signs { wished_signs self.new.standings.items ≡ wished_signs self.old.standings.items }
     {

@@ -124,7 +124,8 @@ impl Propagator {
         ensures right { IsPropagator self.new.trail self.new.processed self.new.clauses.items self.new.lists }
         ensures grew { Grew self.old.trail self.old.clauses.items self.new.trail self.new.clauses.items }
         ensures processed { self.new.processed ≡ self.old.processed }
-        ensures visited { IfOk result (λ r. r ≡ None → AreDone self.new.trail self.new.clauses.items self.new.lists falsified (length (watchers self.new.lists falsified))) }
+        ensures visited { IfOk result (λ r. r ≡ None → AreDone self.new.trail self.new.clauses.items self.new.lists falsified
+            (length (watchers self.new.lists falsified))) }
         ensures conflict { IfOk result (λ r. (n : ℕ) → r ≡ Some n → IsConflict self.new.trail self.new.clauses.items n) }
     {
         let packed = Packed::of(falsified)?;
@@ -139,7 +140,8 @@ impl Propagator {
         ensures right { IsPropagator self.new.trail self.new.processed self.new.clauses.items self.new.lists }
         ensures grew { Grew self.old.trail self.old.clauses.items self.new.trail self.new.clauses.items }
         ensures processed { self.new.processed ≡ self.old.processed }
-        ensures visited { IfOk result (λ r. r ≡ None → AreDone self.new.trail self.new.clauses.items self.new.lists falsified (length (watchers self.new.lists falsified))) }
+        ensures visited { IfOk result (λ r. r ≡ None → AreDone self.new.trail self.new.clauses.items self.new.lists falsified
+            (length (watchers self.new.lists falsified))) }
         ensures conflict { IfOk result (λ r. (n : ℕ) → r ≡ Some n → IsConflict self.new.trail self.new.clauses.items n) }
     {
         let mut entries = self.lists.take(falsified);
@@ -154,13 +156,16 @@ impl Propagator {
         falsified: Packed,
         entries: &mut Vec<Watch>,
     ) -> Result<Option<usize>, AllocError>
-        requires right { IsPropagator self.old.trail self.old.processed self.old.clauses.items (with_entries self.old.lists falsified entries.old.items) }
+        requires right { IsPropagator self.old.trail self.old.processed self.old.clauses.items
+            (with_entries self.old.lists falsified entries.old.items) }
         requires falsified { IsTrue (holds (literals self.old.trail.steps) (negated falsified)) }
         requires made { falsified.var.0 < length self.old.trail.phases }
-        ensures right { IsPropagator self.new.trail self.new.processed self.new.clauses.items (with_entries self.new.lists falsified entries.new.items) }
+        ensures right { IsPropagator self.new.trail self.new.processed self.new.clauses.items
+            (with_entries self.new.lists falsified entries.new.items) }
         ensures grew { Grew self.old.trail self.old.clauses.items self.new.trail self.new.clauses.items }
         ensures processed { self.new.processed ≡ self.old.processed }
-        ensures visited { IfOk result (λ r. r ≡ None → AreEntriesDone self.new.trail self.new.clauses.items falsified entries.new.items (length entries.new.items)) }
+        ensures visited { IfOk result (λ r. r ≡ None → AreEntriesDone self.new.trail self.new.clauses.items falsified entries.new.items
+            (length entries.new.items)) }
         ensures conflict { IfOk result (λ r. (n : ℕ) → r ≡ Some n → IsConflict self.new.trail self.new.clauses.items n) }
     {
         let mut i = 0;
@@ -178,9 +183,11 @@ impl Propagator {
     fn next_entry(&self, entries: &[Watch], from: usize) -> Option<usize>
         ensures later { IfSome result (λ at. from ≤ at) }
         ensures inside { IfSome result (λ at. at < length entries.now) }
-        ensures done { IfSome result (λ at. (l : SatLit) → AreEntriesDone self.now.trail self.now.clauses.items l entries.now from → AreEntriesDone self.now.trail self.now.clauses.items l entries.now at) }
+        ensures done { IfSome result (λ at. (l : SatLit) → AreEntriesDone self.now.trail self.now.clauses.items l entries.now from
+            → AreEntriesDone self.now.trail self.now.clauses.items l entries.now at) }
         ensures fits { IfSome result (λ at. at + 1 < 2 ^ 64) }
-        ensures none { IfNone result ((l : SatLit) → AreEntriesDone self.now.trail self.now.clauses.items l entries.now from → AreEntriesDone self.now.trail self.now.clauses.items l entries.now (length entries.now)) }
+        ensures none { IfNone result ((l : SatLit) → AreEntriesDone self.now.trail self.now.clauses.items l entries.now from
+            → AreEntriesDone self.now.trail self.now.clauses.items l entries.now (length entries.now)) }
     {
         for at in from..entries.len() {
             if !self.trail.affirms(entries[at].blocker) {
@@ -197,15 +204,21 @@ impl Propagator {
         entries: &mut Vec<Watch>,
         i: usize,
     ) -> Result<Visited, AllocError>
-        requires right { IsPropagator self.old.trail self.old.processed self.old.clauses.items (with_entries self.old.lists falsified entries.old.items) }
+        requires right { IsPropagator self.old.trail self.old.processed self.old.clauses.items
+            (with_entries self.old.lists falsified entries.old.items) }
         requires falsified { IsTrue (holds (literals self.old.trail.steps) (negated falsified)) }
         requires made { falsified.var.0 < length self.old.trail.phases }
         requires there { i < length entries.old.items }
-        ensures right { IsPropagator self.new.trail self.new.processed self.new.clauses.items (with_entries self.new.lists falsified entries.new.items) }
+        ensures right { IsPropagator self.new.trail self.new.processed self.new.clauses.items
+            (with_entries self.new.lists falsified entries.new.items) }
         ensures grew { Grew self.old.trail self.old.clauses.items self.new.trail self.new.clauses.items }
         ensures processed { self.new.processed ≡ self.old.processed }
-        ensures next { IfOk result (λ r. r ≡ Visited.Next → (length entries.new.items ≡ length entries.old.items) × (AreEntriesDone self.old.trail self.old.clauses.items falsified entries.old.items i → AreEntriesDone self.new.trail self.new.clauses.items falsified entries.new.items (i + 1))) }
-        ensures again { IfOk result (λ r. r ≡ Visited.Again → (length entries.new.items + 1 ≡ length entries.old.items) × (AreEntriesDone self.old.trail self.old.clauses.items falsified entries.old.items i → AreEntriesDone self.new.trail self.new.clauses.items falsified entries.new.items i)) }
+        ensures next { IfOk result (λ r. r ≡ Visited.Next → (length entries.new.items ≡ length entries.old.items)
+            × (AreEntriesDone self.old.trail self.old.clauses.items falsified entries.old.items i
+            → AreEntriesDone self.new.trail self.new.clauses.items falsified entries.new.items (i + 1))) }
+        ensures again { IfOk result (λ r. r ≡ Visited.Again → (length entries.new.items + 1 ≡ length entries.old.items)
+            × (AreEntriesDone self.old.trail self.old.clauses.items falsified entries.old.items i
+            → AreEntriesDone self.new.trail self.new.clauses.items falsified entries.new.items i)) }
         ensures conflict { IfOk result (λ r. (n : ℕ) → r ≡ Visited.False n → IsConflict self.new.trail self.new.clauses.items n) }
     {
         let watch = entries[i];
@@ -256,8 +269,10 @@ impl Propagator {
     fn replacement_in(&self, n: usize, other: Packed) -> Option<Packed>
         requires { n < length self.now.clauses.items }
         ensures new { IfSome result (λ l. (l ≢ other) × (holds (literals self.now.trail.steps) (negated l) ≡ false)) }
-        ensures member { IfSome result (λ l. (watched : Watched) → slice_get self.now.clauses.items n ≡ Some watched → IsTrue (holds watched.clause l)) }
-        ensures none { IfNone result ((watched : Watched) → slice_get self.now.clauses.items n ≡ Some watched → (l : SatLit) → IsTrue (holds watched.clause l) → l ≢ other → IsTrue (holds (literals self.now.trail.steps) (negated l))) }
+        ensures member { IfSome result (λ l. (watched : Watched) → slice_get self.now.clauses.items n ≡ Some watched
+            → IsTrue (holds watched.clause l)) }
+        ensures none { IfNone result ((watched : Watched) → slice_get self.now.clauses.items n ≡ Some watched → (l : SatLit)
+            → IsTrue (holds watched.clause l) → l ≢ other → IsTrue (holds (literals self.now.trail.steps) (negated l))) }
     {
         if let Some(literal) = self.replacement(self.clauses.near(n), other) {
             return Some(literal);
@@ -271,8 +286,10 @@ impl Propagator {
 
     /// A literal that is not false, other than this one.
     fn replacement(&self, among: &[Packed], other: Packed) -> Option<Packed>
-        ensures some { IfSome result (λ l. IsTrue (holds among.now l) × (l ≢ other) × (holds (literals self.now.trail.steps) (negated l) ≡ false)) }
-        ensures none { IfNone result ((l : SatLit) → IsTrue (holds among.now l) → l ≢ other → IsTrue (holds (literals self.now.trail.steps) (negated l))) }
+        ensures some { IfSome result (λ l. IsTrue (holds among.now l) × (l ≢ other)
+            × (holds (literals self.now.trail.steps) (negated l) ≡ false)) }
+        ensures none { IfNone result ((l : SatLit) → IsTrue (holds among.now l) → l ≢ other
+            → IsTrue (holds (literals self.now.trail.steps) (negated l))) }
     {
         for packed in among {
             if self.is_free(*packed, other) {
@@ -329,8 +346,10 @@ impl Propagator {
 
     /// A variable without a value, if there is one.
     fn pick(&mut self) -> Option<Var>
-        ensures some { IfSome result (λ v. (v.0 < length self.old.trail.phases) × (mentions_variable (literals self.old.trail.steps) v ≡ false)) }
-        ensures none { IfNone result ((v : Var) → v.0 < length self.old.trail.phases → mentions_variable (literals self.old.trail.steps) v ≢ false) }
+        ensures some { IfSome result
+            (λ v. (v.0 < length self.old.trail.phases) × (mentions_variable (literals self.old.trail.steps) v ≡ false)) }
+        ensures none { IfNone result ((v : Var) → v.0 < length self.old.trail.phases
+            → mentions_variable (literals self.old.trail.steps) v ≢ false) }
         ensures trail { self.new.trail ≡ self.old.trail }
         ensures processed { self.new.processed ≡ self.old.processed }
         ensures clauses { self.new.clauses.items ≡ self.old.clauses.items }
@@ -447,7 +466,8 @@ impl Propagator {
         ensures clauses { self.new.clauses.items ≡ self.old.clauses.items }
         ensures phases { self.new.trail.phases ≡ self.old.trail.phases }
         ensures starts { self.new.trail.starts ≡ take levels self.old.trail.starts }
-        ensures steps { levels < length self.old.trail.starts → self.new.trail.steps ≡ take (slice_index_or self.old.trail.starts levels 0) self.old.trail.steps }
+        ensures steps { levels < length self.old.trail.starts → self.new.trail.steps
+            ≡ take (slice_index_or self.old.trail.starts levels 0) self.old.trail.steps }
         ensures same { length self.old.trail.starts ≤ levels → self.new.trail ≡ self.old.trail }
     {
         if levels < self.trail.levels() {
@@ -501,7 +521,8 @@ impl Propagator {
     fn is_better(&self, literal: SatLit, other: Option<SatLit>, than: Option<SatLit>) -> bool
         ensures new { IsTrue result → other ≢ Some literal }
         ensures yes { IsTrue result → (t : SatLit) → than ≡ Some t → IsSooner (literals self.now.trail.steps) t literal }
-        ensures no { result ≡ false → other ≢ Some literal → (t : SatLit) × (than ≡ Some t) × IsSooner (literals self.now.trail.steps) literal t }
+        ensures no { result ≡ false → other ≢ Some literal → (t : SatLit) × (than ≡ Some t)
+            × IsSooner (literals self.now.trail.steps) literal t }
     {
         if other == Some(literal) {
             return false;
@@ -604,7 +625,8 @@ impl Propagator {
         ensures beginning { (n : ℕ) × (literals self.new.trail.steps ≡ take n (literals self.old.trail.steps)) }
         ensures open { IsTrue result → mentions_variable (literals self.new.trail.steps) first.var ≡ false }
         ensures denied { IsTrue result → IsTrue (holds (literals self.new.trail.steps) (negated second)) }
-        ensures unseen { IsTrue result → (s : ℕ) → Contains self.new.trail.starts s → holds (take s (literals self.new.trail.steps)) (negated second) ≡ false }
+        ensures unseen { IsTrue result → (s : ℕ) → Contains self.new.trail.starts s
+            → holds (take s (literals self.new.trail.steps)) (negated second) ≡ false }
     {
         if !self.trail.is_false(second) {
             return false;
@@ -628,7 +650,8 @@ impl Propagator {
         requires apart { first ≢ second }
         requires open { mentions_variable (literals self.old.trail.steps) first.var ≡ false }
         requires unit { IsUnitClause (literals self.old.trail.steps) clause.now first }
-        requires unseen { (s : ℕ) → Contains self.old.trail.starts s → holds (take s (literals self.old.trail.steps)) (negated second) ≡ false }
+        requires unseen { (s : ℕ) → Contains self.old.trail.starts s → holds (take s (literals self.old.trail.steps)) (negated second)
+            ≡ false }
         ensures right { IsPropagator self.new.trail self.new.processed self.new.clauses.items self.new.lists }
         ensures made { length self.new.trail.phases ≡ length self.old.trail.phases }
         ensures inserted { OnOk result (texts self.new.clauses.items ≡ texts self.old.clauses.items ++ clause.now ∷ []) }
@@ -706,7 +729,8 @@ impl Propagator {
         ensures right { IsPropagator self.new.trail self.new.processed self.new.clauses.items self.new.lists }
         ensures made { length self.new.trail.phases ≡ length self.old.trail.phases }
         ensures clauses { self.new.clauses.items ≡ self.old.clauses.items }
-        ensures unseen { (l : SatLit) → IsSooner (literals self.old.trail.steps) literal l → IsUnseen self.new.trail.starts (literals self.new.trail.steps) self.new.processed l }
+        ensures unseen { (l : SatLit) → IsSooner (literals self.old.trail.steps) literal l
+            → IsUnseen self.new.trail.starts (literals self.new.trail.steps) self.new.processed l }
     {
         if self.trail.is_false(literal) {
             let place = self.trail.place(literal.var);

@@ -75,7 +75,9 @@ impl WatchLists {
 
     pub fn push(&mut self, literal: SatLit, watch: Watch) -> Result<(), AllocError>
         requires { literal.var.0 * 2 + 1 < length self.old }
-        ensures ok { OnOk result ((m : SatLit) → watchers self.new m ≡ (if same_literal literal m then watchers self.old m ++ watch ∷ [] else watchers self.old m)) }
+        ensures ok { OnOk result
+            ((m : SatLit) → watchers self.new m ≡ (if same_literal literal m then watchers self.old m ++ watch ∷ [] else watchers self.old
+            m)) }
         ensures err { OnErr result (self.new ≡ self.old) }
         ensures made { length self.new ≡ length self.old }
     {
