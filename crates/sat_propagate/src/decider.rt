@@ -1,7 +1,7 @@
 //! The order in which variables are proposed for decisions.
-ghost use Rattle.std.specs.Prelude.{◌≡◌, ◌+◌, ◌<◌, [], ◌∷◌, ◌++◌, ◌≢◌, Some, None, List, false, length, slice_get, slice_set, slice_index_or, IfSome, IfNone, OnOk, OnErr};
+ghost use Rattle.std.specs.Prelude.{◌≡◌, ◌+◌, ◌<◌, [], ◌∷◌, ◌++◌, ◌≢◌, Some, None, List, false, length, slice_set, slice_index_or, IfSome, IfNone, OnOk, OnErr, vec_len, vec_capacity};
 ghost use Rattle.sat_base.specs.declared.literal.Var.{Var};
-ghost use Rattle.sat_propagate.specs.Internal.Decider.{wished_signs, wished, next_gain, IsOpenVariable};
+ghost use Rattle.sat_propagate.specs.Internal.Decider.{wished_signs, wished, scores, heap_place, with_gain, with_gains, scaled_down, scores_before, next_gain, IsOpenVariable};
 
 use crate::trail::Trail;
 use sat_base::Var;
@@ -36,8 +36,6 @@ const GROWTH: u64 = 20;
 const HEIGHT: usize = 64;
 
 impl Decider {
-    ghost use Rattle.sat_propagate.specs.declared.decider.Standing.{Standing};
-
     pub fn new(alloc: Global) -> Self
         ensures heap { result.heap.items ≡ [] }
         ensures standings { result.standings.items ≡ [] }
@@ -53,6 +51,7 @@ impl Decider {
     pub fn add_variable(&mut self) -> Result<(), AllocError>
         ensures gain { self.new.gain ≡ self.old.gain }
         ensures ok { OnOk result (wished_signs self.new.standings.items ≡ wished_signs self.old.standings.items ++ false ∷ []) }
+        ensures scores { OnOk result (scores self.new.standings.items ≡ scores self.old.standings.items ++ 0 ∷ []) }
         ensures err { OnErr result (self.new.standings.items ≡ self.old.standings.items) }
     {
         let var = Var(self.standings.len());
@@ -69,6 +68,8 @@ impl Decider {
     pub fn advance(&mut self, variables: &[Var])
         ensures gain { self.new.gain ≡ next_gain self.old.gain }
         ensures signs { wished_signs self.new.standings.items ≡ wished_signs self.old.standings.items }
+        ensures scores { scores self.new.standings.items
+            ≡ with_gains (scores_before self.old.gain (scores self.old.standings.items)) variables.now (next_gain self.old.gain) }
     {
         self.gain = self.gain.saturating_add(self.gain / GROWTH);
         if self.gain > MOST_GAIN {
@@ -82,6 +83,7 @@ impl Decider {
     fn bump(&mut self, var: Var)
         ensures gain { self.new.gain ≡ self.old.gain }
         ensures signs { wished_signs self.new.standings.items ≡ wished_signs self.old.standings.items }
+        ensures scores { scores self.new.standings.items ≡ with_gain (scores self.old.standings.items) var self.old.gain }
     {
         let gain = self.gain;
         if var.0 < self.standings.len() {
@@ -96,6 +98,7 @@ impl Decider {
     fn rescale(&mut self)
         ensures gain { self.new.gain ≡ 65536 }
         ensures signs { wished_signs self.new.standings.items ≡ wished_signs self.old.standings.items }
+        ensures scores { scores self.new.standings.items ≡ scaled_down (scores self.old.standings.items) }
     {
         self.gain = FIRST_GAIN;
         for v in 0..self.standings.len() {
@@ -111,10 +114,12 @@ impl Decider {
 
     /// A variable is open again. Where there is no memory it is not proposed.
     pub fn propose(&mut self, var: Var)
-        ensures kept { (standing : Standing) → slice_get self.old.standings.items var.0 ≡ Some standing → standing.place ≢ None
-            → self.new ≡ self.old }
+        ensures kept { heap_place self.old.standings.items var ≢ None → self.new ≡ self.old }
+        ensures longer { heap_place self.old.standings.items var ≡ None → vec_len self.old.heap < vec_capacity self.old.heap
+            → length self.new.heap.items ≡ length self.old.heap.items + 1 }
         ensures gain { self.new.gain ≡ self.old.gain }
         ensures signs { wished_signs self.new.standings.items ≡ wished_signs self.old.standings.items }
+        ensures scores { scores self.new.standings.items ≡ scores self.old.standings.items }
     {
         if self.place(var).is_some() {
             return;
@@ -132,6 +137,7 @@ impl Decider {
         ensures none { IfNone result (self.new.heap.items ≡ []) }
         ensures gain { self.new.gain ≡ self.old.gain }
         ensures signs { wished_signs self.new.standings.items ≡ wished_signs self.old.standings.items }
+        ensures scores { scores self.new.standings.items ≡ scores self.old.standings.items }
     {
         for _ in 0..self.heap.len() {
             let var = self.pop()?;
@@ -149,6 +155,7 @@ impl Decider {
         ensures none { IfNone result (self.new.heap.items ≡ []) }
         ensures gain { self.new.gain ≡ self.old.gain }
         ensures signs { wished_signs self.new.standings.items ≡ wished_signs self.old.standings.items }
+        ensures scores { scores self.new.standings.items ≡ scores self.old.standings.items }
     {
         let last = self.heap.pop()?;
         let Some(first) = self.heap.first().copied() else {
@@ -174,6 +181,7 @@ impl Decider {
         ensures gain { self.new.gain ≡ self.old.gain }
         ensures heap { self.new.heap.items ≡ self.old.heap.items }
         ensures signs { wished_signs self.new.standings.items ≡ slice_set (wished_signs self.old.standings.items) var.0 sign }
+        ensures scores { scores self.new.standings.items ≡ scores self.old.standings.items }
     {
         if var.0 < self.standings.len() {
             let standing = &mut self.standings[var.0];
@@ -186,6 +194,7 @@ impl Decider {
         ensures gain { self.new.gain ≡ self.old.gain }
         ensures heap { self.new.heap.items ≡ self.old.heap.items }
         ensures signs { wished_signs self.new.standings.items ≡ wished (wished_signs self.old.standings.items) signs.now }
+        ensures scores { scores self.new.standings.items ≡ scores self.old.standings.items }
     {
         for v in 0..signs.len() {
             self.wish(Var(v), signs[v]);
@@ -193,7 +202,7 @@ impl Decider {
     }
 
     fn place(&self, var: Var) -> Option<usize>
-        ensures { (standing : Standing) → slice_get self.now.standings.items var.0 ≡ Some standing → result ≡ standing.place }
+        ensures { result ≡ heap_place self.now.standings.items var }
     {
         self.standings.get(var.0)?.place
     }
@@ -202,6 +211,7 @@ impl Decider {
         ensures gain { self.new.gain ≡ self.old.gain }
         ensures heap { self.new.heap.items ≡ self.old.heap.items }
         ensures signs { wished_signs self.new.standings.items ≡ wished_signs self.old.standings.items }
+        ensures scores { scores self.new.standings.items ≡ scores self.old.standings.items }
     {
         if var.0 < self.standings.len() {
             let standing = &mut self.standings[var.0];
@@ -213,6 +223,7 @@ impl Decider {
         ensures length { length self.new.heap.items ≡ length self.old.heap.items }
         ensures gain { self.new.gain ≡ self.old.gain }
         ensures signs { wished_signs self.new.standings.items ≡ wished_signs self.old.standings.items }
+        ensures scores { scores self.new.standings.items ≡ scores self.old.standings.items }
     {
         if place < self.heap.len() {
             self.heap[place] = var;
@@ -238,6 +249,7 @@ impl Decider {
         ensures length { length self.new.heap.items ≡ length self.old.heap.items }
         ensures gain { self.new.gain ≡ self.old.gain }
         ensures signs { wished_signs self.new.standings.items ≡ wished_signs self.old.standings.items }
+        ensures scores { scores self.new.standings.items ≡ scores self.old.standings.items }
     {
         let mut at = place;
         for _ in 0..HEIGHT {
@@ -262,6 +274,7 @@ impl Decider {
         ensures length { length self.new.heap.items ≡ length self.old.heap.items }
         ensures gain { self.new.gain ≡ self.old.gain }
         ensures signs { wished_signs self.new.standings.items ≡ wished_signs self.old.standings.items }
+        ensures scores { scores self.new.standings.items ≡ scores self.old.standings.items }
     {
         let mut at = place;
         for _ in 0..HEIGHT {

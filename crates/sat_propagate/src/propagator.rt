@@ -8,7 +8,7 @@ ghost use Rattle.sat_laws.specs.Internal.Complete.{satisfies, IsClausePart};
 ghost use Rattle.sat_log.specs.Propagation.{IsFalseIn, IsUnitClause};
 ghost use Rattle.sat_propagate.specs.Internal.Insertion.{IsSooner, IsRank, IsBest, IsUnseen};
 ghost use Rattle.sat_propagate.specs.Internal.Trail.{literals, IsTrail};
-ghost use Rattle.sat_propagate.specs.Internal.Decider.{wished_signs, wished, next_gain};
+ghost use Rattle.sat_propagate.specs.Internal.Decider.{wished_signs, wished, scores, with_gains, scores_before, next_gain};
 ghost use Rattle.sat_propagate.specs.Internal.WatchLists.{watchers, with_entries};
 ghost use Rattle.sat_propagate.specs.Internal.Propagator.{IsPropagator, AreDone, AreEntriesDone, IsWatchDone, Grew, IsConflict, Watches, Moves, texts};
 ghost use Rattle.sat_base.specs.declared.literal.Var.{Var};
@@ -389,6 +389,9 @@ impl Propagator {
         ensures lists { self.new.lists ≡ self.old.lists }
         ensures gain { self.new.decider.gain ≡ next_gain self.old.decider.gain }
         ensures signs { wished_signs self.new.decider.standings.items ≡ wished_signs self.old.decider.standings.items }
+        ensures scores { scores self.new.decider.standings.items
+            ≡ with_gains (scores_before self.old.decider.gain (scores self.old.decider.standings.items)) variables.now
+            (next_gain self.old.decider.gain) }
         ensures used { (self.new.used.items ≡ used.now) ⊎ (self.new.used.items ≡ []) }
     {
         self.decider.advance(variables);
@@ -405,6 +408,7 @@ impl Propagator {
         ensures gain { self.new.decider.gain ≡ self.old.decider.gain }
         ensures heap { self.new.decider.heap.items ≡ self.old.decider.heap.items }
         ensures signs { wished_signs self.new.decider.standings.items ≡ wished (wished_signs self.old.decider.standings.items) values.now }
+        ensures scores { scores self.new.decider.standings.items ≡ scores self.old.decider.standings.items }
     {
         self.decider.wish_all(values);
     }

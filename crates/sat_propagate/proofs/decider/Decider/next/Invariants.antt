@@ -1,6 +1,6 @@
 use Rattle.std.proofs.Common.{◌≡◌, ◌≤◌, ◌+◌, List, ◌∷◌, length}
 use Rattle.sat_base.specs.declared.literal.Var.{Var}
-use Rattle.sat_propagate.specs.Internal.Decider.{wished_signs, IsOpenVariable}
+use Rattle.sat_propagate.specs.Internal.Decider.{wished_signs, scores, IsOpenVariable}
 use Rattle.sat_propagate.proofs.decider.Decider.next.Given as goal
 
 abbrev pub invariant-loop : goal.invariant-loop
@@ -9,4 +9,5 @@ invariant-loop l = record {
   first : (v : Var) (rest : List Var) → l.fn.self.heap.items ≡ v ∷ rest → IsOpenVariable l.trail v → l.self.heap.items ≡ v ∷ rest;
   gain : l.self.gain ≡ l.fn.self.gain;
   signs : wished_signs l.self.standings.items ≡ wished_signs l.fn.self.standings.items;
+  scores : scores l.self.standings.items ≡ scores l.fn.self.standings.items;
 }

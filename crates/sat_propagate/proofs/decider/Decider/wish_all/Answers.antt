@@ -4,7 +4,7 @@ use Rattle.sat_propagate.proofs.DeciderLaws.{wished-none, wished_on}
 use Rattle.sat_propagate.proofs.decider.Decider.wish_all.Goals as goal
 
 pub loop-v-init : goal.loop-v-init
-loop-v-init c = record { gain = refl; heap = refl; signs = sym (wished-none (wished_signs c.args.self.now.standings.items)) }
+loop-v-init c = record { gain = refl; heap = refl; signs = sym (wished-none (wished_signs c.args.self.now.standings.items)); scores = refl }
 
 pub loop-v-preserved : goal.loop-v-preserved
 loop-v-preserved c =
@@ -14,4 +14,5 @@ loop-v-preserved c =
       heap = c.wish.ensures.heap ∙ c.loop-v.invariant.heap;
       signs = wished_on (wished_signs c.args.self.now.standings.items) c.args.signs.now (wished_signs c.loop-v.self.standings.items) (wished_signs c.wish.new.self.standings.items)
           c.loop-v.v _ within c.loop-v.invariant.signs c.wish.ensures.signs;
+      scores = c.wish.ensures.scores ∙ c.loop-v.invariant.scores;
     }
