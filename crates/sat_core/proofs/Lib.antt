@@ -1,5 +1,6 @@
 pub mod MarkLaws
 pub mod ReasonLaws
+pub mod SparesLaws
 pub mod CountingLaws
 pub mod AnalysisSteps
 pub mod ShortenSteps

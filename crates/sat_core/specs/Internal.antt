@@ -7,3 +7,4 @@ pub mod Keeper
 pub mod Restarts
 pub mod Reasons
 pub mod Sides
+pub mod Spares

@@ -1,7 +1,11 @@
 //! Which literals of a clause follow from its others.
-ghost use Rattle.std.specs.Prelude.{◌≡◌, ◌≤◌, ◌<◌, ℕ, [], length, IfSome, IfNone, OnOk, IsSorted};
+ghost use Rattle.std.specs.Prelude.{◌≡◌, ◌≤◌, ◌<◌, ◌∷◌, ◌++◌, ℕ, [], length, IfSome, IfNone, OnOk, IsSorted};
+ghost use Rattle.std.specs.List.{Contains};
 ghost use Rattle.std.specs.Ordering.{nat_cmp};
+ghost use Rattle.sat_base.specs.declared.literal.Var.{Var};
 ghost use Rattle.sat_core.specs.Internal.Reasons.{IsReasonOf, IsReasonClause};
+ghost use Rattle.sat_core.specs.Internal.Spares.{held, AreJudged, JudgesMet};
+ghost use Rattle.sat_core.specs.declared.spares.Visit.{Visit};
 
 use crate::marks::Marks;
 use sat_base::Var;
@@ -62,14 +66,15 @@ impl Spares {
         marks: &Marks,
         start: usize,
     ) -> Result<(), AllocError>
-        ensures { OnOk result (IsSorted nat_cmp self.new.places.items) }
+        ensures sorted { OnOk result (IsSorted nat_cmp self.new.places.items) }
+        ensures judged { OnOk result (JudgesMet propagator.now.trail marks.now start self.new.judged.items) }
     {
         self.restart(propagator.trail.variables())?;
         for var in marks.met() {
-            let is_before = propagator
-                .trail
-                .find(*var)
-                .is_some_and(|place| place < start);
+            let is_before = match propagator.trail.find(*var) {
+                Some(place) => place < start,
+                None => false,
+            };
             if is_before && marks.contains(*var) {
                 self.judge(propagator, marks, *var)?;
             }
@@ -105,12 +110,10 @@ impl Spares {
     }
 
     /// Finds out whether a variable's literal follows, after the others that this needs.
-    fn judge(
-        &mut self,
-        propagator: &Propagator,
-        marks: &Marks,
-        var: Var,
-    ) -> Result<(), AllocError> {
+    fn judge(&mut self, propagator: &Propagator, marks: &Marks, var: Var) -> Result<(), AllocError>
+        ensures judged { OnOk result (Contains self.new.judged.items var) }
+        ensures kept { OnOk result (AreJudged self.old.judged.items self.new.judged.items) }
+    {
         self.visits.clear();
         self.visits.push(Visit { var, read: 0 })?;
         for _ in 0..u64::MAX {
@@ -126,11 +129,13 @@ impl Spares {
                 }
             }
         }
-        Ok(())
+        self.fail_rest()
     }
 
     /// Reads a variable's reason up to the first literal that decides what is known of it, or of which nothing is known.
-    fn read_on(&self, propagator: &Propagator, marks: &Marks, visit: Visit) -> Found {
+    fn read_on(&self, propagator: &Propagator, marks: &Marks, visit: Visit) -> Found
+        ensures same { (needing : Visit) (v : Var) → result ≡ Found.Needed needing v → needing.var ≡ visit.var }
+    {
         let Some(reason) = reason_of(propagator, visit.var) else {
             return Found::Known(Known::Fails);
         };
@@ -157,7 +162,10 @@ impl Spares {
         self.known.get(var.0).copied().unwrap_or(Known::Fails)
     }
 
-    fn note(&mut self, var: Var, known: Known) -> Result<(), AllocError> {
+    fn note(&mut self, var: Var, known: Known) -> Result<(), AllocError>
+        ensures judged { OnOk result (self.new.judged.items ≡ self.old.judged.items ++ var ∷ []) }
+        ensures visits { OnOk result (self.new.visits.items ≡ self.old.visits.items) }
+    {
         self.judged.push(var)?;
         if let Some(slot) = self.known.get_mut(var.0) {
             *slot = known;
@@ -165,20 +173,30 @@ impl Spares {
         Ok(())
     }
 
-    fn note_follows(&mut self, propagator: &Propagator, var: Var) -> Result<(), AllocError> {
+    fn note_follows(&mut self, propagator: &Propagator, var: Var) -> Result<(), AllocError>
+        ensures judged { OnOk result (self.new.judged.items ≡ self.old.judged.items ++ var ∷ []) }
+        ensures visits { OnOk result (self.new.visits.items ≡ self.old.visits.items) }
+    {
         if let Some(place) = propagator.trail.find(var) {
             self.places.push(place)?;
         }
         self.note(var, Known::Follows)
     }
 
-    /// A variable's literal doesn't follow, and so do those whose reasons need it.
-    fn note_fails(&mut self, var: Var) -> Result<(), AllocError> {
+    /// A variable's literal doesn't follow, nor do those whose reasons need it.
+    fn note_fails(&mut self, var: Var) -> Result<(), AllocError>
+        ensures { OnOk result (AreJudged (held (self.old.judged.items ++ var ∷ []) self.old.visits.items) self.new.judged.items) }
+    {
         self.note(var, Known::Fails)?;
-        for _ in 0..self.visits.len() {
-            if let Some(needing) = self.visits.pop() {
-                self.note(needing.var, Known::Fails)?;
-            }
+        self.fail_rest()
+    }
+
+    /// The literals of the variables whose reasons are read don't follow.
+    fn fail_rest(&mut self) -> Result<(), AllocError>
+        ensures { OnOk result (AreJudged (held self.old.judged.items self.old.visits.items) self.new.judged.items) }
+    {
+        while let Some(needing) = self.visits.pop() {
+            self.note(needing.var, Known::Fails)?;
         }
         Ok(())
     }
