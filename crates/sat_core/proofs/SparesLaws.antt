@@ -1,5 +1,5 @@
 -- Which variables are judged.
-use Rattle.std.proofs.Common.{◌≡◌, ◌++◌, inl, inr, ℕ, Bool, false, ltb, List, [], ◌∷◌, Some, Result, Ok, Err, OnOk, length, map, sym, ap, subst, ◌∙◌, append_assoc, append-nil, arith}
+use Rattle.std.proofs.Common.{◌≡◌, ◌++◌, inl, inr, ℕ, Bool, false, ltb, List, [], ◌∷◌, Some, length, map, sym, ap, subst, ◌∙◌, append_assoc, append-nil, arith}
 use Rattle.std.specs.List.{Contains, slice_get}
 use Rattle.std.proofs.lemmas.Bool.{true≢false, lt-ltb}
 use Rattle.std.proofs.lemmas.List.{map-append}
@@ -53,11 +53,6 @@ held_none judged (x ∷ visits) none v has = absurd (omega (arith, none))
 pub held_started : (judged : List Var) (visits rest : List Visit) (visit : Visit) → visits ≡ rest ++ visit ∷ [] → Contains (held judged visits) visit.var
 held_started judged visits rest visit pushed =
     subst (λ (list : List Var). Contains list visit.var) (sym (ap (held judged) pushed ∙ held_push judged rest visit)) (Contains-push (held judged rest) visit.var)
-
--- what follows from what is ensured where nothing failed
-pub on_ok : {T E P Q : Type 0} (r : Result T E) → (P → Q) → OnOk r P → OnOk r Q
-on_ok (Ok x) f p = f p
-on_ok (Err e) f p = tt
 
 -- a variable that stands before the start isn't found at a later place
 pub not_before : (trail : TrailState) (start : ℕ) (v : Var) (place : ℕ) (is_before : Bool) → (step : Step) × (slice_get trail.steps place ≡ Some step) × (step.literal.var ≡ v)

@@ -1,58 +1,17 @@
 -- Facts about the order in which variables are proposed.
 use Rattle.std.proofs.Common.{◌≡◌, ◌<◌, ◌≤◌, ◌+◌, ◌-◌, ◌/◌, ◌^◌, ℕ, zero, suc, Bool, List, [], ◌∷◌, ◌++◌, Some, None, length, take, get_or, set, refl, sym, ap, ◌∙◌, arith, min}
 use Rattle.std.specs.List.{slice_get}
+use Rattle.std.proofs.lemmas.List.{map-set, length-map, get_or-map}
 use Rattle.std.proofs.lemmas.Bool.Decides.{nat_tests}
 use Rattle.sat_propagate.specs.declared.decider.Standing.{Standing}
 use Rattle.sat_base.specs.declared.literal.Var.{Var}
-use Rattle.sat_propagate.specs.Internal.Decider.{wished_signs, wished, scores, with_gain, with_gains, scaled_down, next_gain}
-
--- a write of a standing with the same sign changes no sign
-pub signs-set_same : (xs : List Standing) (i : ℕ) (d y : Standing) → y.sign ≡ (get_or xs i d).sign → wished_signs (set xs i y) ≡ wished_signs xs
-signs-set_same [] i d y e = refl
-signs-set_same (x ∷ xs) zero d y e = ap (λ (s : Bool). s ∷ wished_signs xs) e
-signs-set_same (x ∷ xs) (suc i) d y e = ap (λ (ss : List Bool). x.sign ∷ ss) (signs-set_same xs i d y e)
-
--- a write of a standing is one of its sign
-pub signs-set : (xs : List Standing) (i : ℕ) (y : Standing) → wished_signs (set xs i y) ≡ set (wished_signs xs) i y.sign
-signs-set [] i y = refl
-signs-set (x ∷ xs) zero y = refl
-signs-set (x ∷ xs) (suc i) y = ap (λ (ss : List Bool). x.sign ∷ ss) (signs-set xs i y)
-
--- a write of a standing with the same score changes no score
-pub scores-set_same : (xs : List Standing) (i : ℕ) (d y : Standing) → y.score ≡ (get_or xs i d).score → scores (set xs i y) ≡ scores xs
-scores-set_same [] i d y e = refl
-scores-set_same (x ∷ xs) zero d y e = ap (λ (n : ℕ). n ∷ scores xs) e
-scores-set_same (x ∷ xs) (suc i) d y e = ap (λ (ns : List ℕ). x.score ∷ ns) (scores-set_same xs i d y e)
-
--- a write of a standing is one of its score
-pub scores-set : (xs : List Standing) (i : ℕ) (y : Standing) → scores (set xs i y) ≡ set (scores xs) i y.score
-scores-set [] i y = refl
-scores-set (x ∷ xs) zero y = refl
-scores-set (x ∷ xs) (suc i) y = ap (λ (ns : List ℕ). x.score ∷ ns) (scores-set xs i y)
-
-scores-get : (xs : List Standing) (i k : ℕ) (d : Standing) → i < length xs → (get_or xs i d).score ≡ get_or (scores xs) i k
-scores-get [] i k d h = absurd (omega arith)
-scores-get (x ∷ xs) zero k d h = refl
-scores-get (x ∷ xs) (suc i) k d h = scores-get xs i k d (omega arith)
-
-pub scores-push : (xs : List Standing) (y : Standing) → scores (xs ++ y ∷ []) ≡ scores xs ++ y.score ∷ []
-scores-push [] y = refl
-scores-push (x ∷ xs) y = ap (λ (ns : List ℕ). x.score ∷ ns) (scores-push xs y)
-
--- a variable without a standing gains nothing
-pub gain-past : (xs : List Standing) (v : Var) (g : ℕ) → length xs ≤ v.0 → with_gain (scores xs) v g ≡ scores xs
-gain-past xs v g h = past xs v.0 _ h
-  where
-    past : (ys : List Standing) (i n : ℕ) → length ys ≤ i → set (scores ys) i n ≡ scores ys
-    past [] i n h = refl
-    past (y ∷ ys) zero n h = absurd (omega arith)
-    past (y ∷ ys) (suc i) n h = ap (λ (ns : List ℕ). y.score ∷ ns) (past ys i n (omega arith))
+use Rattle.sat_propagate.specs.Internal.Decider.{wished, scores, with_gain, with_gains, scaled_down, next_gain}
 
 -- a write of a standing whose score has gained
 pub gain-set : (xs : List Standing) (v : Var) (g : ℕ) (d old y : Standing) → v.0 < length xs → old ≡ get_or xs v.0 d → y.score ≡ min (old.score + g) (2 ^ 64 - 1) → scores (set xs v.0 y) ≡ with_gain (scores xs) v g
 gain-set xs v g d old y h there e =
-    scores-set xs v.0 y
-    ∙ ap (λ k. set (scores xs) v.0 k) (e ∙ ap (λ k. min (k + g) (2 ^ 64 - 1)) (ap (λ (s : Standing). s.score) there ∙ scores-get xs v.0 0 d h))
+    map-set (λ (s : Standing). s.score) xs v.0 y
+    ∙ ap (λ k. set (scores xs) v.0 k) (e ∙ ap (λ k. min (k + g) (2 ^ 64 - 1)) (ap (λ (s : Standing). s.score) there ∙ sym (get_or-map (λ (s : Standing). s.score) xs v.0 d 0 h)))
 
 gains-next : (ns : List ℕ) (vs : List Var) (k g : ℕ) (d : Var) → k < length vs → with_gain (with_gains ns (take k vs) g) (get_or vs k d) g ≡ with_gains ns (take (suc k) vs) g
 gains-next ns [] k g d h = absurd (omega arith)
@@ -88,36 +47,22 @@ scaled_first-length ns zero = refl
 scaled_first-length [] (suc k) = refl
 scaled_first-length (n ∷ ns) (suc k) = ap suc (scaled_first-length ns k)
 
-scores-length : (xs : List Standing) → length (scores xs) ≡ length xs
-scores-length [] = refl
-scores-length (x ∷ xs) = ap suc (scores-length xs)
-
 -- one score more is divided
 pub scaled-set : (zs xs : List Standing) (k : ℕ) (d old y : Standing) → k < length zs → scores xs ≡ scaled_first k (scores zs) → old ≡ get_or xs k d → y.score ≡ old.score / 1099511627776 → scores (set xs k y) ≡ scaled_first (k + 1) (scores zs)
 scaled-set zs xs k d old y within so there e =
     let long : suc k ≡ k + 1 = omega arith in
-    let same : length xs ≡ length zs = sym (scores-length xs) ∙ ap length so ∙ scaled_first-length (scores zs) k ∙ scores-length zs in
+    let same : length xs ≡ length zs = sym (length-map xs (λ (s : Standing). s.score)) ∙ ap length so ∙ scaled_first-length (scores zs) k ∙ length-map zs (λ (s : Standing). s.score) in
     let h : k < length xs = omega (arith, within, same) in
-    let in_scores : k < length (scores zs) = omega (arith, within, scores-length zs) in
-    scores-set xs k y
-    ∙ ap (λ n. set (scores xs) k n) (e ∙ ap (λ n. n / 1099511627776) (ap (λ (s : Standing). s.score) there ∙ scores-get xs k 0 d h))
+    let in_scores : k < length (scores zs) = omega (arith, within, length-map zs (λ (s : Standing). s.score)) in
+    map-set (λ (s : Standing). s.score) xs k y
+    ∙ ap (λ n. set (scores xs) k n) (e ∙ ap (λ n. n / 1099511627776) (ap (λ (s : Standing). s.score) there ∙ sym (get_or-map (λ (s : Standing). s.score) xs k d 0 h)))
     ∙ ap (λ ms. set ms k (get_or ms k 0 / 1099511627776)) so
     ∙ scaled_first-next (scores zs) k 0 in_scores
     ∙ ap (λ n. scaled_first n (scores zs)) long
 
 -- all scores are divided
 pub scaled-all : (zs xs : List Standing) (k : ℕ) → scores xs ≡ scaled_first k (scores zs) → length zs ≤ k → scores xs ≡ scaled_down (scores zs)
-scaled-all zs xs k so h = so ∙ scaled_first-all (scores zs) k (omega (arith, h, scores-length zs))
-
--- there is no sign past the last standing
-pub signs-past : (xs : List Standing) (i : ℕ) (b : Bool) → length xs ≤ i → set (wished_signs xs) i b ≡ wished_signs xs
-signs-past [] i b h = refl
-signs-past (x ∷ xs) zero b h = absurd (omega arith)
-signs-past (x ∷ xs) (suc i) b h = ap (λ (ss : List Bool). x.sign ∷ ss) (signs-past xs i b (omega arith))
-
-pub signs-push : (xs : List Standing) (y : Standing) → wished_signs (xs ++ y ∷ []) ≡ wished_signs xs ++ y.sign ∷ []
-signs-push [] y = refl
-signs-push (x ∷ xs) y = ap (λ (ss : List Bool). x.sign ∷ ss) (signs-push xs y)
+scaled-all zs xs k so h = so ∙ scaled_first-all (scores zs) k (omega (arith, h, length-map zs (λ (s : Standing). s.score)))
 
 pub wished-none : (ss : List Bool) → wished ss [] ≡ ss
 wished-none [] = refl

@@ -1,10 +1,11 @@
 use Rattle.std.proofs.Common.{◌∷◌, ◌++◌, [], List, refl, sym, subst, ◌∙◌, append-nil}
 use Rattle.std.specs.List.{Contains}
+use Rattle.std.proofs.lemmas.Result.{on_ok_weaker}
 use Rattle.sat_base.specs.declared.literal.Var.{Var}
 use Rattle.sat_core.specs.Internal.Spares.{held}
 use Rattle.sat_core.specs.declared.spares.Spares.{Spares}
 use Rattle.sat_core.specs.declared.spares.Visit.{Visit}
-use Rattle.sat_core.proofs.SparesLaws.{held_noted, held_needed, held_judged, held_started, on_ok}
+use Rattle.sat_core.proofs.SparesLaws.{held_noted, held_needed, held_judged, held_started}
 use Rattle.sat_core.proofs.spares.Spares.judge.Goals.{in-Known-Follows+in_ok-note_follows-in-Known-Follows, in-Known+in_ok-note_fails-in-Known, in-Needed+in_ok-push-in-Needed+in_ok-push-in-Needed-2, else-loop-test, then-loop-test+in_default}
 use Rattle.sat_core.proofs.spares.Spares.judge.Goals as goal
 
@@ -44,7 +45,7 @@ returns-clause-kept c =
           subst (λ (s : Spares). Contains (held s.judged.items s.visits.items) v) (sym w.self-is)
           (subst (λ (list : List Visit). Contains (held c.loop.self.judged.items list) v) (w.in_default.ensures.items ∙ append-nil w.pop.new.self.items) has)
     ] in
-    on_ok c.fail_rest.result (λ fails v has. fails v (ends v (c.loop.invariant.kept v has))) c.fail_rest.ensures
+    on_ok_weaker c.fail_rest.result (λ fails v has. fails v (ends v (c.loop.invariant.kept v has))) c.fail_rest.ensures
 
 pub returns-clause-judged : goal.returns-clause-judged
 returns-clause-judged c =
@@ -54,4 +55,4 @@ returns-clause-judged c =
           subst (λ (s : Spares). Contains (held s.judged.items s.visits.items) c.args.var) (sym w.self-is)
           (subst (λ (list : List Visit). Contains (held c.loop.self.judged.items list) c.args.var) (w.in_default.ensures.items ∙ append-nil w.pop.new.self.items) c.loop.invariant.taken)
     ] in
-    on_ok c.fail_rest.result (λ fails. fails c.args.var ends) c.fail_rest.ensures
+    on_ok_weaker c.fail_rest.result (λ fails. fails c.args.var ends) c.fail_rest.ensures

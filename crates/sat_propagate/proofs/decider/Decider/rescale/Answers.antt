@@ -1,6 +1,7 @@
 use Rattle.std.proofs.Common.{◌∙◌, ◌/◌, refl, ap, arith}
+use Rattle.std.proofs.Math.Seq.{map-set_same}
 use Rattle.sat_propagate.specs.declared.decider.Standing.{Standing}
-use Rattle.sat_propagate.proofs.DeciderLaws.{signs-set_same, scaled-set, scaled-all}
+use Rattle.sat_propagate.proofs.DeciderLaws.{scaled-set, scaled-all}
 use Rattle.sat_propagate.proofs.decider.Decider.rescale.Goals as goal
 
 pub loop-v-preserved : goal.loop-v-preserved
@@ -9,7 +10,7 @@ loop-v-preserved c =
     record {
       gain = c.loop-v.invariant.gain;
       signs =
-          signs-set_same c.loop-v.self.standings.items c.loop-v.v old (record { score = old.score / 1099511627776; place = old.place; sign = old.sign })
+          map-set_same (λ (s : Standing). s.sign) c.loop-v.self.standings.items c.loop-v.v (record { score = old.score / 1099511627776; place = old.place; sign = old.sign }) old
           (ap (λ (s : Standing). s.sign) c.index_mut-standing.ensures.value)
           ∙ c.loop-v.invariant.signs;
       scores =
