@@ -1,11 +1,9 @@
 -- Facts about the order in which variables are proposed.
-use Rattle.std.proofs.Common.{◌≡◌, ◌<◌, ◌≤◌, ◌+◌, ◌-◌, ◌/◌, ◌^◌, ℕ, zero, suc, Bool, List, [], ◌∷◌, ◌++◌, Some, None, length, take, get_or, set, refl, sym, ap, ◌∙◌, arith, min}
-use Rattle.std.specs.List.{slice_get}
+use Rattle.std.proofs.Common.{◌≡◌, ◌<◌, ◌≤◌, ◌+◌, ◌-◌, ◌/◌, ◌^◌, ℕ, zero, suc, Bool, List, [], ◌∷◌, length, take, get_or, set, refl, sym, ap, ◌∙◌, arith, min}
 use Rattle.std.proofs.lemmas.List.{map-set, length-map, get_or-map}
-use Rattle.std.proofs.lemmas.Bool.Decides.{nat_tests}
 use Rattle.sat_propagate.specs.declared.decider.Standing.{Standing}
 use Rattle.sat_base.specs.declared.literal.Var.{Var}
-use Rattle.sat_propagate.specs.Internal.Decider.{wished, scores, with_gain, with_gains, scaled_down, next_gain}
+use Rattle.sat_propagate.specs.Internal.Decider.{wished, scores, with_gain, with_gains, scaled_down}
 
 -- a write of a standing whose score has gained
 pub gain-set : (xs : List Standing) (v : Var) (g : ℕ) (d old y : Standing) → v.0 < length xs → old ≡ get_or xs v.0 d → y.score ≡ min (old.score + g) (2 ^ 64 - 1) → scores (set xs v.0 y) ≡ with_gain (scores xs) v g
@@ -80,20 +78,3 @@ pub wished_on : (ss vs now new : List Bool) (i : ℕ) (d : Bool) → i < length 
 wished_on ss vs now new i d h so e =
     let long : suc i ≡ i + 1 = omega arith in
     e ∙ ap (λ (list : List Bool). set list i (get_or vs i d)) so ∙ wished-next ss vs i d h ∙ ap (λ (n : ℕ). wished ss (take n vs)) long
-
--- the gain by whether it grew too much
-pub gain_high : (g x : ℕ) → x ≡ min (g + g / 20) (2 ^ 64 - 1) → 2 ^ 56 < x → 65536 ≡ next_gain g
-gain_high g x e h = grind (arith, nat_tests)
-
-pub gain_low : (g x : ℕ) → x ≡ min (g + g / 20) (2 ^ 64 - 1) → x ≤ 2 ^ 56 → x ≡ next_gain g
-gain_low g x e h = grind (arith, nat_tests)
-
--- where the last element is the only one, it is the first
-pub first_alone : {X : Type 0} (old rest new : List X) (last v : X) → old ≡ new ++ last ∷ [] → slice_get new 0 ≡ None → old ≡ v ∷ rest → Some last ≡ Some v
-first_alone old rest [] last v e none is = cc
-first_alone old rest (x ∷ xs) last v e none is = cc
-
--- and else the first one is the first of the others
-pub first_of : {X : Type 0} (old rest new : List X) (last first v : X) → old ≡ new ++ last ∷ [] → slice_get new 0 ≡ Some first → old ≡ v ∷ rest → Some first ≡ Some v
-first_of old rest [] last first v e at is = cc
-first_of old rest (x ∷ xs) last first v e at is = cc

@@ -4,6 +4,7 @@
 mod clause_table;
 mod decider;
 mod packed;
+mod part;
 mod propagator;
 mod recent;
 mod trail;

@@ -1,10 +1,9 @@
 //! Unit propagation over clauses with two watched literals each.
-ghost use Rattle.std.specs.Prelude.{◌≡◌, ◌≢◌, ◌⊎◌, ◌<◌, ◌≤◌, [], ◌∷◌, ◌++◌, ◌+◌, ◌*◌, ◌^◌, ℕ, Some, None, Option, IsTrue, true, false, length, map, take, slice_get, slice_index_or, IfOk, IfSome, IfNone, OnOk, OnErr, MatchOption};
+ghost use Rattle.std.specs.Prelude.{◌≡◌, ◌≢◌, ◌⊎◌, ◌<◌, ◌≤◌, [], ◌∷◌, ◌++◌, ◌+◌, ◌*◌, ◌^◌, ℕ, Some, None, Option, IsTrue, true, false, length, map, take, slice_get, slice_index_or, IfOk, IfSome, IfNone, OnOk, OnErr, MatchOption, vec_capacity};
 ghost use Rattle.std.specs.List.{All, Contains};
 ghost use Rattle.sat_base.specs.declared.literal.SatLit.{SatLit};
 ghost use Rattle.sat_base.specs.Literal.{holds, negated, mentions_variable, IsOver};
 ghost use Rattle.sat_base.specs.Truth.{AllTrue, assigned};
-ghost use Rattle.sat_laws.specs.Internal.Complete.{satisfies, IsClausePart};
 ghost use Rattle.sat_log.specs.Propagation.{IsFalseIn, IsUnitClause};
 ghost use Rattle.sat_propagate.specs.Internal.Insertion.{IsSooner, IsRank, IsBest, IsUnseen};
 ghost use Rattle.sat_propagate.specs.Internal.Trail.{literals, IsTrail};
@@ -18,6 +17,7 @@ ghost use Rattle.sat_propagate.specs.Internal.ClauseTable.{Watched};
 use crate::clause_table::{ClauseTable, NEAR};
 use crate::decider::Decider;
 use crate::packed::{Packed, narrow};
+use crate::part::is_proper_part;
 use crate::recent::Recent;
 use crate::trail::Trail;
 use crate::watch_lists::{Watch, WatchLists};
@@ -393,6 +393,7 @@ impl Propagator {
             ≡ with_gains (scores_before self.old.decider.gain (scores self.old.decider.standings.items)) variables.now
             (next_gain self.old.decider.gain) }
         ensures used { (self.new.used.items ≡ used.now) ⊎ (self.new.used.items ≡ []) }
+        ensures room { length used.now ≤ vec_capacity self.old.used → self.new.used.items ≡ used.now }
     {
         self.decider.advance(variables);
         self.used.clear();
@@ -781,36 +782,4 @@ fn propose_from(decider: &mut Decider, trail: &Trail, start: usize) {
         decider.wish(literal.var, literal.positive);
         decider.propose(literal.var);
     }
-}
-
-/// Whether the literals of a clause are among those of another one that has more.
-fn is_proper_part(part: &[Packed], clause: &[Packed]) -> bool
-    ensures among { IsTrue result → IsClausePart part.now clause.now }
-    ensures more { IsTrue result → (l : SatLit) × IsTrue (holds clause.now l) × (holds part.now l ≡ false) }
-{
-    part.len() < clause.len() && are_among(part, clause) && !are_among(clause, part)
-}
-
-/// Whether the literals of a clause are among those of another one.
-fn are_among(some: &[Packed], clause: &[Packed]) -> bool
-    ensures among { IsTrue result → IsClausePart some.now clause.now }
-    ensures more { result ≡ false → (l : SatLit) × IsTrue (holds some.now l) × (holds clause.now l ≡ false) }
-{
-    for literal in some {
-        if !is_among(*literal, clause) {
-            return false;
-        }
-    }
-    true
-}
-
-fn is_among(literal: Packed, clause: &[Packed]) -> bool
-    ensures { result ≡ holds clause.now literal }
-{
-    for other in clause {
-        if literal.is(*other) {
-            return true;
-        }
-    }
-    false
 }

@@ -1,8 +1,7 @@
 //! The clauses that were learned last.
 
-ghost use Rattle.std.specs.Prelude.{◌≡◌, [], OnOk};
-ghost use Rattle.std.specs.List.{Contains};
-ghost use Rattle.sat_propagate.specs.Internal.Recent.{AppendsOf};
+ghost use Rattle.std.specs.Prelude.{◌≡◌, ◌+◌, ◌<◌, ◌≤◌, [], Some, OnOk, if◌then◌else◌, length, nat_lt, slice_get};
+ghost use Rattle.sat_propagate.specs.Internal.Recent.{signature, AppendsCovered, IsCovered};
 
 use crate::packed::Packed;
 use std::alloc::{AllocError, Global};
@@ -70,8 +69,9 @@ impl Recent {
         literals: &[Packed],
         found: &mut Vec<usize>,
     ) -> Result<(), AllocError>
-        ensures found { AppendsOf self.old.clauses.items found.old.items found.new.items }
-        ensures kept { OnOk result (Contains self.new.clauses.items new) }
+        ensures found { AppendsCovered self.old.blocks.items self.old.clauses.items (signature literals.now) found.old.items found.new.items }
+        ensures kept { OnOk result (IsCovered self.new.blocks.items self.new.clauses.items (signature literals.now) new) }
+        ensures next { OnOk result (self.new.next ≡ (if nat_lt self.old.next 999 then self.old.next + 1 else 0)) }
     {
         let bits = bits_of(literals);
         for at in 0..self.blocks.len() {
@@ -79,59 +79,68 @@ impl Recent {
                 self.find_in_block(at, bits, found)?;
             }
         }
-        self.keep(new, !bits)
+        self.keep(new, bits)
     }
 
     /// Appends the clauses of a block that have all of these bits to a list.
-    #[tactic(auto, using(crate::proofs::RecentLaws::appends_none))]
+    #[tactic(auto, using(crate::proofs::RecentLaws::appends_none, crate::proofs::RecentLaws::appends_one))]
     fn find_in_block(&self, at: usize, bits: u64, found: &mut Vec<usize>) -> Result<(), AllocError>
-        ensures { AppendsOf self.now.clauses.items found.old.items found.new.items }
+        ensures { AppendsCovered self.now.blocks.items self.now.clauses.items bits found.old.items found.new.items }
     {
         let Some(block) = self.blocks.get(at) else {
             return Ok(());
         };
-        let start = at.wrapping_mul(BLOCK);
+        let Some(start) = at.checked_mul(BLOCK) else {
+            return Ok(());
+        };
         for i in 0..BLOCK {
-            if bits & block.absent[i] == 0 {
-                self.find(start.wrapping_add(i), found)?;
+            if bits & block.absent[i] != 0 {
+                continue;
             }
-        }
-        Ok(())
-    }
-
-    /// Appends the clause at a place to a list, if there is one.
-    #[tactic(auto, using(crate::proofs::RecentLaws::appends_none, crate::proofs::RecentLaws::appends_one, crate::proofs::RecentLaws::contained))]
-    fn find(&self, place: usize, found: &mut Vec<usize>) -> Result<(), AllocError>
-        ensures { AppendsOf self.now.clauses.items found.old.items found.new.items }
-    {
-        if let Some(clause) = self.clauses.get(place) {
+            let Some(clause) = self.clauses.get(start + i) else {
+                break;
+            };
             found.push(*clause)?;
         }
         Ok(())
     }
 
-    /// Keeps a clause, in the place of the oldest one where there is no room.
-    fn keep(&mut self, clause: usize, absent: u64) -> Result<(), AllocError>
-        ensures { OnOk result (Contains self.new.clauses.items clause) }
+    /// Keeps a clause with its bits, in the place of the oldest one where there is no room.
+    fn keep(&mut self, clause: usize, bits: u64) -> Result<(), AllocError>
+        ensures kept { OnOk result (IsCovered self.new.blocks.items self.new.clauses.items bits clause) }
+        ensures next { OnOk result (self.new.next ≡ (if nat_lt self.old.next 999 then self.old.next + 1 else 0)) }
     {
-        let at = self.next / BLOCK;
-        let slot = self.next % BLOCK;
-        if at >= self.blocks.len() {
+        let place = self.next.min(self.clauses.len());
+        let at = place / BLOCK;
+        self.make_blocks(at)?;
+        store(&mut self.clauses, place, clause)?;
+        let block = &mut self.blocks[at];
+        block.absent[place % BLOCK] = !bits;
+        self.next = if self.next < MOST * BLOCK - 1 {
+            self.next + 1
+        } else {
+            0
+        };
+        Ok(())
+    }
+
+    /// Makes blocks up to a number, where there are fewer.
+    fn make_blocks(&mut self, at: usize) -> Result<(), AllocError>
+        ensures made { OnOk result (at < length self.new.blocks.items) }
+        ensures clauses { self.new.clauses ≡ self.old.clauses }
+        ensures next { self.new.next ≡ self.old.next }
+    {
+        while self.blocks.len() <= at {
             self.blocks.push(Block::EMPTY)?;
         }
-        store(&mut self.clauses, self.next, clause)?;
-        if let Some(block) = self.blocks.get_mut(at) {
-            block.absent[slot] = absent;
-        }
-        self.next = self.next.wrapping_add(1) % (MOST * BLOCK);
         Ok(())
     }
 }
 
-/// Puts a number at a place of a list, at its end where it has no such place.
-#[tactic(auto, using(crate::proofs::RecentLaws::contains_written, crate::proofs::RecentLaws::contains_last))]
+/// Puts a number at a place of a list, or at its end.
 fn store(numbers: &mut Vec<usize>, place: usize, number: usize) -> Result<(), AllocError>
-    ensures { OnOk result (Contains numbers.new.items number) }
+    requires { place ≤ length numbers.old.items }
+    ensures { OnOk result (slice_get numbers.new.items place ≡ Some number) }
 {
     if place < numbers.len() {
         numbers[place] = number;
@@ -142,7 +151,9 @@ fn store(numbers: &mut Vec<usize>, place: usize, number: usize) -> Result<(), Al
 }
 
 /// The bits of some literals.
-fn bits_of(literals: &[Packed]) -> u64 {
+fn bits_of(literals: &[Packed]) -> u64
+    ensures { result ≡ signature literals.now }
+{
     let mut bits = 0;
     for literal in literals {
         let spread = literal.number().wrapping_mul(SPREAD) >> 26;

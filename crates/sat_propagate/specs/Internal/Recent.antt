@@ -1,9 +1,34 @@
 -- What contracts say of the clauses that were learned last.
-use Rattle.std.specs.Prelude.{◌≡◌, ◌++◌, ℕ, List}
-use Rattle.std.specs.List.{All, Contains}
+use Rattle.std.specs.Prelude.{◌≡◌, ◌++◌, ◌*◌, ◌/◌, ◌%◌, ◌^◌, ℕ, List, [], ◌∷◌, Some, slice_get, slice_index_or}
+use Rattle.std.specs.List.{All}
+use Rattle.std.specs.Int.Bits.{bit_and, bit_or}
+use Rattle.sat_base.specs.declared.literal.SatLit.{SatLit}
+use Rattle.sat_laws.specs.Internal.Packing.{packed}
+use Rattle.sat_propagate.specs.declared.recent.Block.{Block}
 
--- a list is another one with some of these numbers behind it
-pub record AppendsOf (numbers before after : List ℕ) : Type 0 where
+-- the bit of a literal, one of 64: its number is spread by a multiplication, of which six bits are taken
+abbrev pub literal_bit : SatLit → ℕ
+literal_bit l = 2 ^ (packed l * 2654435761 % 2 ^ 64 / 2 ^ 26 % 64)
+
+-- some bits, and those of some literals
+abbrev pub with_bits : ℕ → List SatLit → ℕ
+with_bits bits [] = bits
+with_bits bits (l ∷ ls) = with_bits (bit_or bits (literal_bit l)) ls
+
+-- the signature of a clause: the bits of its literals
+abbrev pub signature : List SatLit → ℕ
+signature clause = with_bits 0 clause
+
+-- a clause is among those that are kept, with all of these bits: eight clauses have one block, of the bits that they don't have
+pub record IsCovered (blocks : List Block) (clauses : List ℕ) (bits n : ℕ) : Type 0 where
+  pub place : ℕ
+  pub block : Block
+  pub clause : slice_get clauses place ≡ Some n
+  pub beside : slice_get blocks (place / 8) ≡ Some block
+  pub bits_are_there : bit_and bits (slice_index_or block.absent (place % 8) 0) ≡ 0
+
+-- a list is another one with some clauses behind it that are kept with all of these bits
+pub record AppendsCovered (blocks : List Block) (clauses : List ℕ) (bits : ℕ) (before after : List ℕ) : Type 0 where
   pub more : List ℕ
   pub appended : after ≡ before ++ more
-  pub named : All (λ n. Contains numbers n) more
+  pub covered : All (λ n. IsCovered blocks clauses bits n) more
