@@ -1,5 +1,5 @@
 -- Accepted texts.
-use Rattle.std.proofs.Common.{◌≡◌, ◌<◌, ℕ, ◌+◌, List, [], ◌∷◌, Result, Ok, Err, OnOk, IfErr, map, length, slice_get, refl, sym, ap, subst, ◌∙◌, arith}
+use Rattle.std.proofs.Common.{◌≡◌, ◌<◌, ℕ, ◌+◌, List, [], ◌∷◌, Result, Ok, Err, IfErr, map, length, slice_get, refl, sym, ap, subst, ◌∙◌, arith}
 use Rattle.std.specs.List.{AllByRecursion}
 use Rattle.std.proofs.lemmas.List.{length-map}
 use Rattle.stt_core.specs.Meaning.{Model, IsModel}
@@ -28,10 +28,6 @@ use Rattle.refute_check.specs.Acceptance.{taken_texts, NamesDefinitions, refuted
 use Rattle.refute_check.proofs.DefinitionLaws.{differ_once}
 use Rattle.refute_check.specs.declared.refusal.CheckRefused.{CheckRefused}
 use Rattle.refute_check.specs.declared.refusal.CheckRefused.TheVariants.{Line, Memory}
-
-pub on_ok : {E : Type 0} {P Q : Type 0} (r : Result (Unit {0}) E) → (P → Q) → OnOk r P → OnOk r Q
-on_ok (Ok u) f h = f h
-on_ok (Err e) f h = tt
 
 pub at_its_line : (e : CheckRefused) (P Q : ℕ → Why → Type 0) → ((line : ℕ) (why : Why) → P line why → Q line why) → IfLine e P → IfLine e Q
 at_its_line (Line line why) P Q f h = f line why h

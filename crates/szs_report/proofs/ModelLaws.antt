@@ -1,5 +1,5 @@
 -- The text of a model is written line by line.
-use Rattle.std.proofs.Common.{◌≡◌, ◌+◌, ◌-◌, ◌<◌, ◌≤◌, ℕ, zero, suc, List, [], ◌∷◌, ◌++◌, codes, decimal, length, map, take, slice_get, Option, Some, option_map, unwrap_or, Result, Ok, Err, OnOk, refl, sym, ap, ap₂, ◌∙◌, append_assoc, arith}
+use Rattle.std.proofs.Common.{◌≡◌, ◌+◌, ◌-◌, ◌<◌, ◌≤◌, ℕ, zero, suc, List, [], ◌∷◌, ◌++◌, codes, decimal, length, map, take, slice_get, Option, Some, option_map, unwrap_or, refl, sym, ap, ap₂, ◌∙◌, append_assoc, arith}
 use Rattle.std.proofs.lemmas.List.{length-map}
 use Rattle.std.proofs.lemmas.Option.{slice_get_within}
 use Rattle.thf_names.specs.Names.{name_text}
@@ -30,11 +30,6 @@ five_put old a b c d e one two three four five p q r s t =
 -- a symbol's line behind those before
 pub line_put : (names : Names) (x : Symbol) (v : ℕ) (old text one two : List ℕ) → one ≡ old ++ text → two ≡ one ++ (codes " " ++ (decimal v ++ codes "\n")) → as_bytes (value_line names x v ∷ []) ≡ text ++ (codes " " ++ (decimal v ++ codes "\n")) → two ≡ old ++ as_bytes (value_line names x v ∷ [])
 line_put names x v old text one two e f g = two_put old text (codes " " ++ (decimal v ++ codes "\n")) one two e f ∙ ap (λ t. old ++ t) (sym g)
-
--- what holds where a call succeeds
-pub on_ok : {A E : Type 0} {P Q : Type 0} (r : Result A E) → (P → Q) → OnOk r P → OnOk r Q
-on_ok (Ok a) f p = f p
-on_ok (Err e) f p = tt
 
 name_got : (cs : List TypedName) (i : ℕ) (n : List ℕ) → option_map (λ c. c.name) (slice_get cs i) ≡ Some n → slice_get (map (λ c. c.name) cs) i ≡ Some n
 name_got [] i n h = cc

@@ -1,13 +1,14 @@
 use Rattle.std.proofs.Common.{sym, ◌∙◌}
 use Rattle.refute_print.specs.TextView.{the_text}
+use Rattle.std.proofs.lemmas.Result.{on_ok_weaker}
 use Rattle.refute_check.specs.Internal.Strictly.{TextFailsBy}
-use Rattle.refute_check.proofs.AcceptanceLaws.{on_ok, if_line}
+use Rattle.refute_check.proofs.AcceptanceLaws.{if_line}
 use Rattle.refute_check.proofs.StrictLaws.{plain_accepted_by, plain_fails_by, fails_not_by}
 use Rattle.refute_check.proofs.check.check_by.Goals as goal
 
 pub returns-then-len-eq0-clause-accepted : goal.returns-then-len-eq0-clause-accepted
 returns-then-len-eq0-clause-accepted c =
-    on_ok c.check_start.result (plain_accepted_by c.args.problem.now (the_text c.args.text.now) c.args.strict (sym c.len.ensures ∙ c.if-len-eq0.true)) c.check_start.ensures.accepted
+    on_ok_weaker c.check_start.result (plain_accepted_by c.args.problem.now (the_text c.args.text.now) c.args.strict (sym c.len.ensures ∙ c.if-len-eq0.true)) c.check_start.ensures.accepted
 
 pub returns-then-len-eq0-clause-refused : goal.returns-then-len-eq0-clause-refused
 returns-then-len-eq0-clause-refused c =

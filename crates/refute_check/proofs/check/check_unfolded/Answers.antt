@@ -1,7 +1,8 @@
 use Rattle.std.proofs.Common.{rules}
 use Rattle.refute_print.specs.TextView.{the_text}
+use Rattle.std.proofs.lemmas.Result.{on_ok_weaker}
 use Rattle.refute_check.specs.Internal.Strictly.{TextFailsBy}
-use Rattle.refute_check.proofs.AcceptanceLaws.{on_ok, at_its_line, if_line}
+use Rattle.refute_check.proofs.AcceptanceLaws.{at_its_line, if_line}
 use Rattle.refute_check.proofs.StrictLaws.{unfolded_accepted_by, unfolded_fails_by, definition_fails_by}
 use Rattle.refute_check.proofs.check.check_unfolded.Goals as goal
 
@@ -15,7 +16,7 @@ returns-in_err-check_definitions-clause-refused c =
 
 pub returns-clause-accepted : goal.returns-clause-accepted
 returns-clause-accepted c =
-    on_ok c.check_start.result (unfolded_accepted_by c.args.problem.now (the_text c.args.text.now) c.args.strict c.requires.named c.in_ok-check_definitions.ensures.named) c.check_start.ensures.accepted
+    on_ok_weaker c.check_start.result (unfolded_accepted_by c.args.problem.now (the_text c.args.text.now) c.args.strict c.requires.named c.in_ok-check_definitions.ensures.named) c.check_start.ensures.accepted
 
 pub returns-clause-refused : goal.returns-clause-refused
 returns-clause-refused c =
