@@ -83,7 +83,7 @@ impl Recent {
     }
 
     /// Appends the clauses of a block that have all of these bits to a list.
-    #[tactic(auto, using(crate::proofs::RecentLaws::appends_none, crate::proofs::RecentLaws::appends_one))]
+    #[tactic(auto, using(crate::proofs::RecentLaws::appends_none))]
     fn find_in_block(&self, at: usize, bits: u64, found: &mut Vec<usize>) -> Result<(), AllocError>
         ensures { AppendsCovered self.now.blocks.items self.now.clauses.items bits found.old.items found.new.items }
     {
