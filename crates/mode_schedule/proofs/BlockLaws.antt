@@ -1,5 +1,5 @@
 -- A schedule that is read block by block.
-use Rattle.std.proofs.Common.{◌≡◌, ◌≢◌, ℕ, ◌+◌, ◌<◌, ◌≤◌, true, false, List, [], ◌∷◌, ◌++◌, length, refl, sym, ap, ◌∙◌, subst, arith, append_assoc, append-nil, length-append}
+use Rattle.std.proofs.Common.{◌≡◌, ℕ, ◌+◌, ◌<◌, ◌≤◌, true, false, List, [], ◌∷◌, ◌++◌, length, refl, sym, ap, ◌∙◌, subst, arith, append_assoc, append-nil, length-append}
 use Rattle.std.specs.List.{All, AllByRecursion}
 use Rattle.std.proofs.lemmas.List.Elements.{All-from_recursion}
 use Rattle.mode_file.specs.declared.Mode.{Mode}
@@ -11,7 +11,7 @@ use Rattle.mode_file.proofs.RangeLaws.{mode_in_range}
 use Rattle.outside.specs.Lines.{lines_of}
 use Rattle.mode_schedule.specs.declared.Block.{Block}
 use Rattle.mode_schedule.specs.Internal.Refused.{bad_line_of}
-use Rattle.mode_schedule.specs.Grammar.{most_blocks, greatest_slice, is_slice_line, IsSlice, AreInBlock, BeginWithSlice, AreSilent, IsBlock, AreBlocks, HaveBlocks, IsBadBefore, HaveNoBlock, IsBadSlice, IsBadInBlock}
+use Rattle.mode_schedule.specs.Grammar.{most_blocks, greatest_slice, is_slice_line, IsSlice, AreInBlock, BeginWithSlice, AreSilent, IsBlock, AreBlocks, HaveBlocks, HaveNoBlock, IsBadInBlock}
 
 -- lists of lines with one more
 
@@ -56,35 +56,12 @@ pub record IsReadTo (bytes rest : List ℕ) (blocks : List Block) (line : ℕ) :
   pub room : line + length rest ≤ length bytes
   pub begins : BeginWithSlice (lines_of rest)
 
-pub preface_read : (bytes front rest : List ℕ) (line : ℕ) → lines_of bytes ≡ lines_of front ++ lines_of rest → AreSilent (lines_of front) → line ≡ length (lines_of front) → line + length rest ≤ length bytes → BeginWithSlice (lines_of rest) → IsReadTo bytes rest [] line
-preface_read bytes front rest line lines_are silent line_is room begins = record {
-  before = lines_of front;
-  lines_are = lines_are;
-  have = record { preface = lines_of front; own = []; lines_are = sym (append-nil (lines_of front)); silent = silent; are_blocks = refl; room = omega arith };
-  line_is = line_is;
-  room = room;
-  begins = begins;
-}
-
 begins_here : (lines behind : List (List ℕ)) (line : List ℕ) → lines ≡ line ∷ behind → BeginWithSlice lines → is_slice_line line ≡ true
 begins_here lines behind line e h = let b : BeginWithSlice (line ∷ behind) = subst BeginWithSlice e h in b
 
 module _ (bytes rest line behind : List ℕ) (blocks : List Block) (number : ℕ) (r0 : IsReadTo bytes rest blocks number) (cut : lines_of rest ≡ line ∷ lines_of behind) where
   pub is_slice : is_slice_line line ≡ true
   is_slice = begins_here (lines_of rest) (lines_of behind) line cut r0.begins
-
-  pub bad_slice : (Why : List ℕ → List Block → Type 0) → Why line blocks → IsBadSlice (lines_of bytes) (number + 1) Why
-  bad_slice Why why = record {
-    before = r0.before;
-    bad = line;
-    behind = lines_of behind;
-    blocks = blocks;
-    lines_are = r0.lines_are ∙ ap (λ (ls : List (List ℕ)). r0.before ++ ls) cut;
-    have = r0.have;
-    is_slice = is_slice;
-    why = why;
-    number_is = ap (λ n. n + 1) r0.line_is;
-  }
 
   -- the lines of a block, up to the next line of a slice
   module _ (own more : List ℕ) (parted : lines_of behind ≡ lines_of own ++ lines_of more) (inside : AreInBlock (lines_of own)) (ends : BeginWithSlice (lines_of more)) where
@@ -121,20 +98,6 @@ module _ (bytes rest line behind : List ℕ) (blocks : List Block) (number : ℕ
       number_is = ap (λ m. m + 1 + bad_line_of r) r0.line_is;
     }
 
--- a line before all blocks is bad among all lines
-pub bad_before-more : (lines rest all : List (List ℕ)) (number : ℕ) (Why : List ℕ → Type 0) → all ≡ lines ++ rest → IsBadBefore lines number Why → IsBadBefore all number Why
-bad_before-more lines rest all number Why e h = record {
-  before = h.before;
-  bad = h.bad;
-  behind = h.behind ++ rest;
-  lines_are = e ∙ ap (λ (ls : List (List ℕ)). ls ++ rest) h.lines_are ∙ append_assoc h.before (h.bad ∷ h.behind) rest;
-  silent = h.silent;
-  says = h.says;
-  is_other = h.is_other;
-  why = h.why;
-  number_is = h.number_is;
-}
-
 -- the end
 
 pub all_read : (bytes rest : List ℕ) (blocks : List Block) (line : ℕ) → IsReadTo bytes rest blocks line → rest ≡ [] → HaveBlocks (lines_of bytes) blocks
@@ -167,7 +130,3 @@ all_slices lines blocks h = All-from_recursion (λ (b : Block). (0 < b.slice) ×
 
 pub all_modes : (lines : List (List ℕ)) (blocks : List Block) → HaveBlocks lines blocks → All (λ (b : Block). IsInRange b.mode) blocks
 all_modes lines blocks h = All-from_recursion (λ (b : Block). IsInRange b.mode) blocks (modes_in_range h.own blocks h.are_blocks)
-
-pub some_blocks : (blocks : List Block) → blocks ≢ [] → 0 < length blocks
-some_blocks [] h = absurd (h refl)
-some_blocks (b ∷ bs) h = omega arith

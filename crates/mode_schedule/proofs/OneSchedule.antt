@@ -38,17 +38,6 @@ one_cut [] (l ∷ q) x y hp hq hx hy e = let b : BeginWithSlice (l ∷ (q ++ y))
 one_cut (l ∷ p) [] x y hp hq hx hy e = let b : BeginWithSlice (l ∷ (p ++ x)) = subst BeginWithSlice (sym e) hy in absurd (no_bool (is_slice_line l) b hp.0)
 one_cut (l ∷ p) (k ∷ q) x y hp hq hx hy e = cons_same l k p q x y (heads l k (p ++ x) (q ++ y) e) (one_cut p q x y hp.1 hq.1 hx hy (tails l k (p ++ x) (q ++ y) e))
 
-silent_other : (line : List ℕ) → says_nothing line ≡ true → is_slice_line line ≡ false
-silent_other line e = by_test (is_slice_line line) refl
-  where
-    by_test : (b : Bool) → is_slice_line line ≡ b → b ≡ false
-    by_test true t = absurd (no_bool (says_nothing line) e (slice_says line t))
-    by_test false t = refl
-
-silent_in : (lines : List (List ℕ)) → AreSilent lines → AreInBlock lines
-silent_in [] h = tt
-silent_in (l ∷ ls) h = (silent_other l h.0, silent_in ls h.1)
-
 -- blocks, and what stands behind them, begin with the line of a slice
 begin : (lines rest : List (List ℕ)) (blocks : List Block) → AreBlocks lines blocks → BeginWithSlice rest → BeginWithSlice (lines ++ rest)
 begin lines rest [] h k = subst (λ (ls : List (List ℕ)). BeginWithSlice (ls ++ rest)) (sym h) k

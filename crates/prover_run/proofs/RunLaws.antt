@@ -2,7 +2,6 @@
 use Rattle.std.specs.Prelude.{◌≡◌, ◌≤◌, ◌+◌, ◌^◌, ◌∷◌, ◌++◌, ℕ, zero, suc, Bool, true, false, List, [], map, filter, length, Some, slice_get, Contains, refl, Option, None}
 use Rattle.std.specs.List.{All}
 use Rattle.std.proofs.Common.{sym, ap, ap₂, subst, ◌∙◌, arith, inl, inr, cond}
-use Rattle.std.proofs.lemmas.Bool.{cases_lt}
 use Rattle.stt_core.specs.Typing.{Scope}
 use Rattle.stt_core.specs.PlainProblem.{PlainProblem}
 use Rattle.stt_core.specs.Declarations.{scope_of}
@@ -130,13 +129,6 @@ module _ (t : Tables) (q : Queue Planned Delays) (r : IsRunning t q) (t2 : Table
 
 pub until-nothing : (setting : Setting) (ls : List Literal) → GoesOnUntil setting ls 0
 until-nothing setting ls m h = absurd (omega (arith, h))
-
-pub until-next : (setting : Setting) (ls : List Literal) (n : ℕ) → GoesOnUntil setting ls n → GoesOn setting ls n → GoesOnUntil setting ls (n + 1)
-until-next setting ls n until g m h =
-    elim (cases_lt m n) [
-      | inl less ↦ until m less
-      | inr least ↦ subst (GoesOn setting ls) (omega (arith, h, least)) g
-    ]
 
 -- THE START OF A PROBLEM
 

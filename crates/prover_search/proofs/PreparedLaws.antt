@@ -1,11 +1,10 @@
 -- Prepared starts.
-use Rattle.std.specs.Prelude.{◌≡◌, ℕ, List, [], map, length, All}
+use Rattle.std.specs.Prelude.{◌≡◌, ℕ, List, [], map, All}
 use Rattle.std.proofs.Common.{sym, ap, subst, ◌∙◌}
-use Rattle.stt_core.specs.Declarations.{scope_of}
 use Rattle.stt_core.specs.PlainProblem.{PlainProblem}
 use Rattle.tableau_calculus.specs.Witnesses.{Row}
 use Rattle.sat_base.specs.declared.literal.SatLit.{SatLit}
-use Rattle.term_bank.specs.Content.{Content, content_scope}
+use Rattle.term_bank.specs.Content.{Content}
 use Rattle.literal_map.specs.Atoms.{IsAtom}
 use Rattle.witness_names.specs.Rows.{rows_of, AreRows}
 use Rattle.bank_normal.specs.Right.{IsRightNormaliser}
@@ -14,12 +13,6 @@ use Rattle.prover_state.specs.declared.tables.Basis.{Basis}
 use Rattle.prover_state.specs.Internal.Growing.{BasisGrows}
 use Rattle.prover_state.specs.Internal.Standing.{IsBasis}
 use Rattle.prover_search.specs.Internal.Starting.{IsPreparedFor}
-
--- a bank without witnesses has the scope of what is declared
-pub scope-unwitnessed : (g : Basis) → IsBasis g → g.witnesses ≡ [] → (p : PlainProblem) → g.bank.bases ≡ p.declared.bases → g.bank.consts ≡ p.declared.consts → content_scope g.bank ≡ scope_of p.declared
-scope-unwitnessed g good unwitnessed p bases consts =
-    let none : g.bank.witnesses ≡ [] = sym good.typed ∙ ap (λ ws. map (λ (r : Row). r.type) (rows_of g.bank.terms ws)) unwitnessed in
-    λ i. record { bases = length (bases i); names = map (λ c. c.type) (consts i); witnesses = none i }
 
 pub prepared-grown : (p : PlainProblem) (g h : Basis) (lits : List SatLit) → BasisGrows g h → IsBasis h → g.bank.bases ≡ p.declared.bases → g.bank.consts ≡ p.declared.consts → g.witnesses ≡ []
     → AreStartNumbers h.bank h.lits (start_literals p) lits → IsPreparedFor p h lits

@@ -153,9 +153,6 @@ module _ (t : Tables) (q q1 : Queue Planned Delays) (r : IsRunning t q) (e : Ent
   pub taken-sketches : Each (IsTypedSketch (scope_by t1.basis)) (sketches_in t1)
   taken-sketches = (after-typed setting r.declared (start_in t) r.start t.done s r.comes_to).typed.parked
 
-  pub taken-few : length t1.basis.witnesses < t1.done
-  taken-few = omega (arith, r.few)
-
   taken_state : the_state t1 q1 ≡ with_taken setting (entry_at (naming_in t) e) s
   taken_state =
       ap (λ (x : State). record x { done = t.done + 1; moment = m }) takes.leaves
@@ -224,9 +221,6 @@ module _ (t u : Tables) (q p : Queue Planned Delays) (tables : u ≡ record t { 
 
   pub setting-solved : setting_by u p ≡ setting_by t q
   setting-solved = ap₂ setting_by tables plan
-
-  pub start-solved : start_in u ≡ start_in t
-  start-solved = ap start_in tables
 
   pub done-solved : u.done ≡ t.done
   done-solved = ap (λ (x : Tables). x.done) tables

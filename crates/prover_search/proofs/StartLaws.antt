@@ -154,10 +154,3 @@ module _ (offers : HeadOffers) (setting : Setting) where
       by_depth : (b : Bool) → is_shallow_literal l ≡ b → with_instance setting.mode [] ((l ∷ []) ∷ []) (start_offering offers setting xs) ≡ start_offering offers setting xs
       by_depth true e = sym (with_test xs l true e) ∙ begun_again (shallow xs) l (has-filter l xs e there)
       by_depth false e = sym (with_test xs l false e)
-
-  pub started-none : start_offering offers setting [] ≡ record nothing_yet { offers = offers }
-  started-none = refl
-
-  -- its clauses are its literals'
-  pub started-clauses : (xs : List Literal) → (start_offering offers setting xs).clauses ≡ map unit (shallow xs)
-  started-clauses xs = refl

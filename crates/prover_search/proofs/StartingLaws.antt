@@ -1,7 +1,7 @@
 -- A start, as the tables have it.
 use Rattle.std.specs.Prelude.{◌≡◌, ◌≤◌, ◌+◌, ◌&&◌, ℕ, suc, Bool, true, false, not, List, [], ◌∷◌, ◌++◌, map, filter, take, length, slice_get, Some, if◌then◌else◌, refl}
 use Rattle.std.specs.List.{list_any, list_all}
-use Rattle.std.proofs.Common.{sym, ap, ap₂, ◌∙◌, subst, arith, append-nil, append_assoc, length-append}
+use Rattle.std.proofs.Common.{sym, ap, ap₂, ◌∙◌, subst, arith, append-nil, length-append}
 use Rattle.std.proofs.lemmas.List.Elements.{filter-append}
 use Rattle.stt_core.specs.Typing.{Scope, IsScope}
 use Rattle.stt_core.proofs.ListLaws.{map-append, take_got}
@@ -9,7 +9,7 @@ use Rattle.tableau_calculus.specs.Literals.{Literal, IsBranch}
 use Rattle.tableau_calculus.specs.Kinds.{has, added, formulas}
 use Rattle.tableau_calculus.specs.Start.{without_repeats}
 use Rattle.tableau_calculus.proofs.AddedLaws.{added-append}
-use Rattle.tableau_calculus.specs.Witnesses.{Row, with_rows}
+use Rattle.tableau_calculus.specs.Witnesses.{with_rows}
 use Rattle.sat_base.specs.declared.literal.SatLit.{SatLit}
 use Rattle.command_queue.specs.Queue.{Queue}
 use Rattle.tableau_calculus.specs.Each.{Each}
@@ -29,8 +29,6 @@ use Rattle.head_offers.specs.Offering.{the_offers}
 use Rattle.search_spec.proofs.TypedPushes.{each_filtered}
 use Rattle.refute_print.specs.Sizes.{nesting}
 use Rattle.type_bound.specs.Modest.{IsModestLiteral}
-use Rattle.term_bank.specs.Content.{content_scope}
-use Rattle.witness_names.specs.Rows.{rows_of}
 use Rattle.literal_map.specs.Atoms.{bank_literal}
 use Rattle.tableau_clauses.specs.declared.origin.Origin.TheVariants.{Start}
 use Rattle.tableau_clauses.specs.Table.{Step, Table, clauses_in, the_clauses, start_units}
@@ -40,13 +38,10 @@ use Rattle.prover_state.specs.declared.command.Delays.{Delays}
 use Rattle.prover_state.specs.declared.tables.Basis.{Basis}
 use Rattle.prover_state.specs.declared.tables.Tables.{Tables}
 use Rattle.prover_state.specs.Internal.Growing.{BasisGrows}
-use Rattle.prover_state.specs.Internal.Standing.{without_witnesses, setting_by, the_state, IsBasis, IsRightState}
+use Rattle.prover_state.specs.Internal.Standing.{without_witnesses, setting_by, the_state, IsRightState}
 use Rattle.prover_state.specs.Internal.Steps.{IsMadeInstance}
 use Rattle.prover_search.specs.Internal.Running.{start_in, IsRunning}
 use Rattle.prover_search.specs.Internal.Starting.{AddsUnit, AddsStart, start_offering, IsStarting}
-use Rattle.prover_search.proofs.DevelopLaws.{grows-wider, wider-then, wider-itself}
-use Rattle.prover_search.proofs.UnitLaws.{start-stays}
-use Rattle.prover_state.proofs.StateStays.{state-stays, right-stays}
 use Rattle.prover_search.proofs.StartLaws.{unit, started-last, started-again, alone-clauses}
 
 mapped_length : {X Y : Type 0} (f : X → Y) (xs : List X) → length (map f xs) ≡ length xs
@@ -90,22 +85,6 @@ clauses_length t q = mapped_length (map (bank_literal t.basis.bank.terms t.basis
 
 pub scope-grows : (g h : Basis) → BasisGrows g h → without_witnesses h.bank ≡ without_witnesses g.bank
 scope-grows g h w = λ i. record { bases = length (w.bank.bases i); names = map (λ c. c.type) (w.bank.consts i); witnesses = [] }
-
-pub grows-then : (a b c : Basis) → BasisGrows a b → BasisGrows b c → BasisGrows a c
-grows-then a b c h k = record {
-  bank = record {
-    bases = k.bank.bases ∙ h.bank.bases;
-    consts = k.bank.consts ∙ h.bank.consts;
-    witnesses = k.bank.witnesses ∙ h.bank.witnesses;
-    further = h.bank.further ++ k.bank.further;
-    terms = k.bank.terms ∙ ap (λ l. l ++ k.bank.further) h.bank.terms ∙ append_assoc a.bank.terms h.bank.further k.bank.further;
-  };
-  lits = (wider-then a b c (grows-wider a b h) (grows-wider b c k)).lits;
-  witnesses = k.witnesses ∙ h.witnesses;
-}
-
-pub grows-itself : (g : Basis) → BasisGrows g g
-grows-itself g = record { bank = record { bases = refl; consts = refl; witnesses = refl; further = []; terms = sym (append-nil g.bank.terms) }; lits = (wider-itself g).lits; witnesses = refl }
 
 -- WHERE ONE LITERAL COMES
 
@@ -156,27 +135,6 @@ unit-clauses lit old new a =
 module _ (t0 : Tables) (q0 : Queue Planned Delays) where
   abbrev setting : Setting
   setting = setting_by t0 q0
-
-  pub starting-none : the_state t0 q0 ≡ record nothing_yet { offers = the_offers t0.offers } → IsRightState t0 q0 → t0.steps ≡ ([], []) → IsStarting t0 q0 t0 q0 []
-  starting-none empty right none = record {
-    state = empty;
-    right = right;
-    basis = grows-itself t0.basis;
-    units = ap (λ (x : Table). map (bank_literal t0.basis.bank.terms t0.basis.lits) (start_units x.0)) none;
-    instances = ap (λ (x : Table). x.1) none;
-    rule = refl;
-  }
-
-  -- where terms and atoms come
-  pub starting-grown : (t : Tables) (q : Queue Planned Delays) (ls : List Literal) → IsStarting t0 q0 t q ls → (g : Basis) → BasisGrows t.basis g → IsBasis g → IsStarting t0 q0 (record t { basis = g }) q ls
-  starting-grown t q ls s g grows good = record {
-    state = state-stays t q g grows s.right ∙ s.state;
-    right = right-stays t q g grows s.right good;
-    basis = grows-then t0.basis t.basis g s.basis grows;
-    units = start-stays t (record t { basis = g }) s.right.basis (grows-wider t.basis g grows) s.right.clauses refl ∙ s.units;
-    instances = s.instances;
-    rule = s.rule;
-  }
 
   module _ (t u : Tables) (q p : Queue Planned Delays) (ls : List Literal) (lit : SatLit) (s : IsStarting t0 q0 t q ls) (is : the_state u p ≡ with_instance q.rule.mode [] ((bank_literal t.basis.bank.terms t.basis.lits lit ∷ []) ∷ []) (the_state t q)) (right : IsRightState u p) (same : u.basis ≡ t.basis) (adds : AddsStart lit t u) (rule : p.rule ≡ q.rule) where
     abbrev l : Literal
@@ -258,19 +216,6 @@ module _ (t0 : Tables) (q0 : Queue Planned Delays) where
         by_test : (b : Bool) → has formulas ls l ≡ b → IsStarting t0 q0 u p (if b then ls else ls ++ l ∷ [])
         by_test true e = starting_again e
         by_test false e = starting_more e
-
-  -- the literal of a formula was added
-  pub starting-literal : (t : Tables) (q : Queue Planned Delays) (ls : List Literal) → IsStarting t0 q0 t q ls → (g : Basis) → BasisGrows t.basis g → IsBasis g → (u : Tables) (p : Queue Planned Delays) (lit : SatLit) (l : Literal) → bank_literal g.bank.terms g.lits lit ≡ l → the_state u p ≡ with_instance q.rule.mode [] ((bank_literal g.bank.terms g.lits lit ∷ []) ∷ []) (the_state (record t { basis = g }) q) → IsRightState u p → u.basis ≡ g → AddsStart lit (record t { basis = g }) u → p.rule ≡ q.rule → IsStarting t0 q0 u p (added formulas ls (l ∷ []))
-  starting-literal t q ls s g grows good u p lit l named is right same adds rule =
-      let S : Literal → Type 0 = λ k. IsStarting t0 q0 u p (added formulas ls (k ∷ [])) in
-      subst S named (starting-added (record t { basis = g }) u q p ls lit (starting-grown t q ls s g grows good) is right same adds rule)
-
-  -- what is declared now is what was declared
-  pub scope-now : (t : Tables) (q : Queue Planned Delays) (ls : List Literal) → IsStarting t0 q0 t q ls → t0.basis.witnesses ≡ [] → content_scope t.basis.bank ≡ without_witnesses t0.basis.bank
-  scope-now t q ls s unwitnessed =
-      let none : t.basis.bank.witnesses ≡ [] = sym s.right.basis.typed ∙ ap (λ ws. map (λ (r : Row). r.type) (rows_of t.basis.bank.terms ws)) (s.basis.witnesses ∙ unwitnessed) in
-      ap (λ ws. record { bases = length t.basis.bank.bases; names = map (λ c. c.type) t.basis.bank.consts; witnesses = ws }) none
-      ∙ scope-grows t0.basis t.basis s.basis
 
   pub done-none : (t : Tables) (q : Queue Planned Delays) (ls : List Literal) → IsStarting t0 q0 t q ls → t.done ≡ 0
   done-none t q ls s = ap (λ (x : State). x.done) s.state

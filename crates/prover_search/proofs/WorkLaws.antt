@@ -5,7 +5,7 @@ use Rattle.std.proofs.Common.{sym, ap, ap₂, ◌∙◌, subst}
 use Rattle.stt_core.specs.SimpleType.{SimpleType, base, arrow}
 use Rattle.stt_core.specs.Lambda.{witness, Lambda, constant, eq, every}
 use Rattle.stt_core.specs.SameTerm.{same_term}
-use Rattle.stt_core.specs.Typing.{Scope, type_of}
+use Rattle.stt_core.specs.Typing.{type_of}
 use Rattle.tableau_calculus.specs.Literals.{Literal, plus, minus}
 use Rattle.tableau_calculus.specs.Witnesses.{Row}
 use Rattle.sat_base.specs.declared.literal.SatLit.{SatLit}
@@ -39,7 +39,6 @@ use Rattle.prover_search.specs.Internal.Developing.{IsWider, Develops}
 use Rattle.prover_search.specs.Internal.Working.{denies_itself}
 use Rattle.prover_search.proofs.MadeStays.{literal-wider}
 use Rattle.prover_search.proofs.DevelopLaws.{grows-wider, steps-same}
-use Rattle.prover_search.proofs.RunLaws.{scope-wider}
 use Rattle.prover_search.proofs.ShapedLaws.{IsConnected}
 
 -- LITERALS
@@ -112,9 +111,6 @@ develops-widened t u g s d = record { basis = widens-wider t.basis u.basis g; st
 module _ (t u : Tables) (q p : Queue Planned Delays) (rule : p.rule ≡ q.rule) where
   pub mode-same : p.rule.mode ≡ q.rule.mode
   mode-same = ap (λ (d : Delays). d.mode) rule
-
-  pub setting-wider : IsWider t.basis u.basis → setting_by u p ≡ setting_by t q
-  setting-wider w = ap₂ (λ (x : Scope) (d : Delays). record { scope = x; mode = d.mode }) (scope-wider t.basis u.basis w) rule
 
 pub literal-same : (g h : Basis) (lit : SatLit) → h ≡ g → bank_literal h.bank.terms h.lits lit ≡ bank_literal g.bank.terms g.lits lit
 literal-same g h lit e = ap (λ (x : Basis). bank_literal x.bank.terms x.lits lit) e

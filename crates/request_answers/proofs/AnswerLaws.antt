@@ -1,28 +1,15 @@
 -- What is answered by files.
-use Rattle.std.proofs.Common.{ℕ, List, Err, refl, sym, subst}
+use Rattle.std.proofs.Common.{ℕ, List, sym, subst}
 use Rattle.outside.specs.Seen.{Seen}
 use Rattle.stt_core.specs.PlainProblem.{PlainProblem}
 use Rattle.thf_include.specs.View.{PlacedTree}
-use Rattle.thf_include.specs.Answer.{Gathers}
-use Rattle.thf_include.specs.Gathering.{Ending, done, stopped, wants, too_long, no_tree, cycle, too_many, no_name}
-use Rattle.thf_include.specs.declared.refused.GatherRefused.{GatherRefused}
-use Rattle.thf_include.specs.declared.refused.GatherRefused.TheVariants.{Fault, TooLong, Syntax, Cycle, NoSuchName, TooMany, Memory}
+use Rattle.thf_include.specs.Gathering.{Ending, done, stopped}
+use Rattle.thf_include.specs.declared.refused.GatherRefused.TheVariants.{Memory}
 use Rattle.szs_report.specs.declared.answer.Answer.{Answer}
 use Rattle.szs_report.specs.declared.answer.Answer.TheVariants as answer
 use Rattle.request_answers.specs.Files.{OfFiles, Statements}
 use Rattle.request_answers.specs.Answers.{AnswersStated, AnswersEnding}
-use Rattle.request_answers.specs.Internal.RefusedFiles.{refused_answer}
 use Rattle.request_answers.specs.Internal.Unread.{IsIllAt, IsUnstated, IsUnread, IsFilesAnswer}
-
--- what is answered where the files aren't gathered
-pub refusal_unread : (seen : Seen) (name : List ℕ) (names : List (List ℕ)) (refused : GatherRefused) → Gathers seen name names (Err refused) → IsUnread name seen (refused_answer names refused)
-refusal_unread seen name names (Fault file) h = (names, record { texts = h.texts; told_texts = h.told; ending = stopped (wants file); gathers = h.answered.0; holds = refl })
-refusal_unread seen name names (TooLong file) h = (names, record { texts = h.texts; told_texts = h.told; ending = stopped (too_long file); gathers = h.answered; holds = refl })
-refusal_unread seen name names (Syntax file at) h = (names, record { texts = h.texts; told_texts = h.told; ending = stopped (no_tree file at); gathers = h.answered; holds = refl })
-refusal_unread seen name names (Cycle file at) h = (names, record { texts = h.texts; told_texts = h.told; ending = stopped (cycle file at); gathers = h.answered; holds = refl })
-refusal_unread seen name names (NoSuchName file at) h = (names, record { texts = h.texts; told_texts = h.told; ending = stopped (no_name file at); gathers = h.answered; holds = refl })
-refusal_unread seen name names (TooMany file at) h = (names, record { texts = h.texts; told_texts = h.told; ending = stopped (too_many file at); gathers = h.answered; holds = refl })
-refusal_unread seen name names Memory h = tt
 
 -- an ending with another property
 pub of_files : (name : List ℕ) (seen : Seen) (names : List (List ℕ)) (P Q : Ending → Type 0) → ((e : Ending) → P e → Q e) → OfFiles name seen names P → OfFiles name seen names Q

@@ -1,5 +1,5 @@
 -- What files are answered with is what a request is.
-use Rattle.std.proofs.Common.{◌≡◌, ◌<◌, ◌⊎◌, inl, inr, ℕ, IsTrue, List, [], ◌∷◌, length, Option, Some, None, Result, Ok, Err, refl, sym, ap, subst, ◌∙◌}
+use Rattle.std.proofs.Common.{◌≡◌, ◌<◌, ◌⊎◌, inl, inr, ℕ, IsTrue, List, [], ◌∷◌, length, Option, Some, Result, Ok, Err, refl, sym, ap, subst, ◌∙◌}
 use Rattle.outside.specs.Causes.{Rose}
 use Rattle.stt_core.specs.PlainProblem.{PlainProblem}
 use Rattle.thf_include.specs.Answer.{AreContents}
@@ -26,7 +26,7 @@ use Rattle.request_answers.specs.Solved.{IsDemoed}
 use Rattle.request_answers.specs.Answers.{stop_answer, AnswersProblem, AnswersStated, AnswersEnding, AnswersRequest}
 use Rattle.request_answers.specs.Causes.{IsFaultIn, IsFaultOf, IsModeFault, IsScheduleFault, IsTextFault, HasCauseOf}
 use Rattle.request_answers.specs.Internal.ReadFaults.{IsNoReadFault}
-use Rattle.request_answers.specs.Internal.Unread.{IsUnaskedMode, IsUnreadSchedule, IsUnstated, IsUnread, IsFilesAnswer}
+use Rattle.request_answers.specs.Internal.Unread.{IsUnreadSchedule, IsUnstated, IsUnread, IsFilesAnswer}
 
 -- an answer of the file of a mode or of a schedule
 abbrev pub IsOfGuide : Answer → Type 0
@@ -112,15 +112,6 @@ module _ (r : Request) (seen : Seen) (m : Mode) (mode : IsModeBy seen (mode_file
 pub files_not_guide : (r : Request) (seen : Seen) (m : Mode) (bs : List Block) (a : Answer) → IsOfGuide a → IsFilesAnswer (AnswersProblem seen r m bs) (problem_name r) (seen_of seen r) a → ⊥
 files_not_guide r seen m bs Memory o h = o
 files_not_guide r seen m bs a o h = ending_not_guide seen r m bs h.0 a h.1.ending o h.1.holds
-
--- a mode's file that isn't read
-pub mode_request : (p : List ℕ) (file : Option (List ℕ)) (nodes : Option ℕ) (seen : Seen) (a : Answer) → IsUnaskedMode seen file a → AnswersRequest (prove p file nodes) seen a
-mode_request p None nodes seen a h = absurd h
-mode_request p (Some file) nodes seen Memory h = tt
-mode_request p (Some file) nodes seen (ReadFault (named.Mode own)) h = ap Some (sym h)
-mode_request p (Some file) nodes seen (TooLong (named.Mode own)) h = (ap Some (sym h.0), subst (λ f. IsTrue seen.tells → (bytes : List ℕ) × (seen.contents f ≡ Some bytes) × (byte_limit < length bytes)) (sym h.0) h.1)
-mode_request p (Some file) nodes seen (ModeAt line why) h = h
-mode_request p (Some file) nodes seen a h = absurd h
 
 -- a schedule's file that isn't read
 pub schedule_request : (file p : List ℕ) (seen : Seen) (a : Answer) → IsUnreadSchedule seen file a → AnswersRequest (by_schedule file p) seen a

@@ -51,7 +51,7 @@ use Rattle.request_answers.specs.Answers.{stop_answer, AnswersProblem, AnswersSt
 use Rattle.request_answers.specs.Causes.{HasCauseOf, HasCauseAsked, HasCause}
 use Rattle.prover_run.specs.Ended.{setting_for, IsRefuted, IsSpent}
 use Rattle.prover_run.proofs.EnoughLaws.{never-ends}
-use Rattle.satallax_top.specs.Headline.{EnoughAsked, IsReportedSo, IsTreeMade, IsProvedOutcome, ShowsNoModel, IsWithoutModel, HasNoModel, IsOfSides, SaysOfSides, HasSidesSo, IsProofReport, Appends, IsWritten, IsOutcome}
+use Rattle.satallax_top.specs.Headline.{EnoughAsked, IsReportedSo, IsTreeMade, IsProvedOutcome, ShowsNoModel, IsWithoutModel, HasNoModel, IsOfSides, SaysOfSides, HasSidesSo, IsProofReport, Appends}
 use Rattle.request_answers.proofs.OneLine.{name_one_line}
 use Rattle.request_answers.proofs.ReportHolds.{holds_report, accepted_report}
 use Rattle.request_answers.proofs.SolvedLaws.{Asked, proof_of_start, proof_accepted}
@@ -407,18 +407,6 @@ pub proof_appended : (words : List (List ℕ)) (seen : Seen) (o : Outcome) (a : 
 proof_appended words seen o a old new answer is w h =
     record { written = report_of (asked_name words) a; appended = w; is_report = proof_reported words seen o a (report_of (asked_name words) a) answer is h refl }
 
--- no answer's outcome is that a write failed
-pub no_write_fault : (a : Answer) → outcome_of a ≡ ended.WriteFault → ⊥
-no_write_fault (Proved Theorem n i tree text) e = cc
-no_write_fault (Proved Unsatisfiable n i tree text) e = cc
-no_write_fault a e = cc
-
--- what is written for an answer
-pub written_whole : (words : List (List ℕ)) (seen : Seen) (before now : List ℕ → ℕ) (o : Outcome) (a : Answer) (old new : List ℕ) → IsAnswer words seen a → o ≡ outcome_of a → new ≡ old ++ report_of (asked_name words) a → IsWritten words seen before now old new o
-written_whole words seen before now ended.WriteFault a old new answer is w = absurd (no_write_fault a (sym is))
-written_whole words seen before now o a old new answer is w =
-    record { written = report_of (asked_name words) a; appended = w; is_report = record { answer = a; is_answer = answer; is_outcome = is; is_report = refl } }
-
 -- an answer whose outcome is that the words ask for nothing
 words_form : (a : Answer) → outcome_of a ≡ ended.Words → a ≡ Words
 words_form Words e = refl
@@ -473,11 +461,6 @@ never_spent (Some (models k p)) seen conflicts enough h =
     let f = files_answered (models k p) seen (ConflictLimit conflicts) (λ x. x) h in f.answered
 never_spent (Some (sides p)) seen conflicts enough h =
     let f = files_answered (sides p) seen (ConflictLimit conflicts) (λ x. x) h in f.answered
-
--- the outcome of an answer
-pub outcome_whole : (words : List (List ℕ)) (seen : Seen) (o : Outcome) (a : Answer) → IsAnswer words seen a → o ≡ outcome_of a → IsOutcome words seen o
-outcome_whole words seen ended.WriteFault a answer is = tt
-outcome_whole words seen o a answer is = (a, answer, is)
 
 -- that memory ran out needs no cause
 pub memory_without_cause : (o : Option Request) (seen : Seen) (before : List ℕ → ℕ) → HasCauseAsked o seen before before ended.Memory
