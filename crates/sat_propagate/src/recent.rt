@@ -1,7 +1,9 @@
 //! The clauses that were learned last.
 
-ghost use Rattle.std.specs.Prelude.{◌≡◌, ◌+◌, ◌<◌, ◌≤◌, [], Some, OnOk, if◌then◌else◌, length, nat_lt, slice_get};
-ghost use Rattle.sat_propagate.specs.Internal.Recent.{signature, AppendsCovered, IsCovered};
+ghost use Rattle.std.specs.Prelude.{◌≡◌, ◌≢◌, ◌+◌, ◌/◌, ◌<◌, ◌≤◌, ℕ, [], Some, OnOk, false, if◌then◌else◌, length, nat_lt, slice_get, slice_index_or};
+ghost use Rattle.std.specs.List.{Contains};
+ghost use Rattle.std.specs.Int.Bits.{bit_and};
+ghost use Rattle.sat_propagate.specs.Internal.Recent.{signature, AppendsCovered, HasBits};
 
 use crate::packed::Packed;
 use std::alloc::{AllocError, Global};
@@ -29,7 +31,9 @@ impl Block {
 
     /// Whether some clause of the block has all of these bits. Where a number is 0, and only there, the one before it has a
     /// bit at the top that the number lacks.
-    fn has(&self, bits: u64) -> bool {
+    fn has(&self, bits: u64) -> bool
+        ensures { result ≡ false → (i : ℕ) → i < 8 → bit_and bits (slice_index_or self.now.absent i 0) ≢ 0 }
+    {
         let mut tops = 0;
         for absent in &self.absent {
             let lacking = bits & *absent;
@@ -69,8 +73,11 @@ impl Recent {
         literals: &[Packed],
         found: &mut Vec<usize>,
     ) -> Result<(), AllocError>
-        ensures found { AppendsCovered self.old.blocks.items self.old.clauses.items (signature literals.now) found.old.items found.new.items }
-        ensures kept { OnOk result (IsCovered self.new.blocks.items self.new.clauses.items (signature literals.now) new) }
+        ensures found { AppendsCovered self.old.blocks.items self.old.clauses.items (signature literals.now)
+            found.old.items found.new.items }
+        ensures all { OnOk result
+            ((n : ℕ) → HasBits self.old.blocks.items self.old.clauses.items (signature literals.now) n → Contains found.new.items n) }
+        ensures kept { OnOk result (HasBits self.new.blocks.items self.new.clauses.items (signature literals.now) new) }
         ensures next { OnOk result (self.new.next ≡ (if nat_lt self.old.next 999 then self.old.next + 1 else 0)) }
     {
         let bits = bits_of(literals);
@@ -85,8 +92,11 @@ impl Recent {
     /// Appends the clauses of a block that have all of these bits to a list.
     #[tactic(auto, using(crate::proofs::RecentLaws::appends_none))]
     fn find_in_block(&self, at: usize, bits: u64, found: &mut Vec<usize>) -> Result<(), AllocError>
-        ensures { AppendsCovered self.now.blocks.items self.now.clauses.items bits found.old.items found.new.items }
+        ensures found { AppendsCovered self.now.blocks.items self.now.clauses.items bits found.old.items found.new.items }
+        ensures all { OnOk result ((n : ℕ) (h : HasBits self.now.blocks.items self.now.clauses.items bits n) → h.place / 8 ≡ at
+            → Contains found.new.items n) }
     {
+        let clauses = self.clauses.as_slice();
         let Some(block) = self.blocks.get(at) else {
             return Ok(());
         };
@@ -97,17 +107,16 @@ impl Recent {
             if bits & block.absent[i] != 0 {
                 continue;
             }
-            let Some(clause) = self.clauses.get(start + i) else {
-                break;
-            };
-            found.push(*clause)?;
+            if let Some(clause) = clauses.get(start + i) {
+                found.push(*clause)?;
+            }
         }
         Ok(())
     }
 
     /// Keeps a clause with its bits, in the place of the oldest one where there is no room.
     fn keep(&mut self, clause: usize, bits: u64) -> Result<(), AllocError>
-        ensures kept { OnOk result (IsCovered self.new.blocks.items self.new.clauses.items bits clause) }
+        ensures kept { OnOk result (HasBits self.new.blocks.items self.new.clauses.items bits clause) }
         ensures next { OnOk result (self.new.next ≡ (if nat_lt self.old.next 999 then self.old.next + 1 else 0)) }
     {
         let place = self.next.min(self.clauses.len());

@@ -10,17 +10,13 @@ use Rattle.sat_propagate.specs.declared.recent.Block.{Block}
 abbrev pub literal_bit : SatLit → ℕ
 literal_bit l = 2 ^ (packed l * 2654435761 % 2 ^ 64 / 2 ^ 26 % 64)
 
--- some bits, and those of some literals
-abbrev pub with_bits : ℕ → List SatLit → ℕ
-with_bits bits [] = bits
-with_bits bits (l ∷ ls) = with_bits (bit_or bits (literal_bit l)) ls
-
 -- the signature of a clause: the bits of its literals
 abbrev pub signature : List SatLit → ℕ
-signature clause = with_bits 0 clause
+signature [] = 0
+signature (l ∷ ls) = bit_or (literal_bit l) (signature ls)
 
 -- a clause is among those that are kept, with all of these bits: eight clauses have one block, of the bits that they don't have
-pub record IsCovered (blocks : List Block) (clauses : List ℕ) (bits n : ℕ) : Type 0 where
+pub record HasBits (blocks : List Block) (clauses : List ℕ) (bits n : ℕ) : Type 0 where
   pub place : ℕ
   pub block : Block
   pub clause : slice_get clauses place ≡ Some n
@@ -31,4 +27,4 @@ pub record IsCovered (blocks : List Block) (clauses : List ℕ) (bits n : ℕ) :
 pub record AppendsCovered (blocks : List Block) (clauses : List ℕ) (bits : ℕ) (before after : List ℕ) : Type 0 where
   pub more : List ℕ
   pub appended : after ≡ before ++ more
-  pub covered : All (λ n. IsCovered blocks clauses bits n) more
+  pub covered : All (λ n. HasBits blocks clauses bits n) more
