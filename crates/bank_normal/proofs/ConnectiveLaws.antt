@@ -1,8 +1,8 @@
 -- Connectives, quantifiers and equations with all their arguments are formulas.
-use Rattle.std.proofs.Common.{◌≡◌, ℕ, Bool, true, false, List, Some, None, refl, sym, ap, subst, ◌∙◌, length, if◌then◌else◌}
+use Rattle.std.proofs.Common.{◌≡◌, ℕ, List, Some, sym, ap, subst, ◌∙◌, length}
 use Rattle.std.proofs.lemmas.Option.{same_Some}
-use Rattle.stt_core.specs.SimpleType.{SimpleType, arrow, formula, predicate, is_declared}
-use Rattle.stt_core.specs.Lambda.{Lambda, falsity, negation, implication, all, equality, constant, applied, IsLeaf}
+use Rattle.stt_core.specs.SimpleType.{SimpleType, formula}
+use Rattle.stt_core.specs.Lambda.{Lambda, all, applied, IsLeaf}
 use Rattle.stt_core.specs.Typing.{Scope, type_of}
 use Rattle.normal_forms.specs.Normal.{eta, apply_each, normal_form}
 use Rattle.normal_forms.specs.Internal.Applying.{IsApplicable, result_after}
@@ -14,26 +14,6 @@ use Rattle.bank_normal.proofs.NormalLaws.{head_neutral, head_made}
 -- a head of one type
 of_type : (n : ℕ) (x a : SimpleType) → Some x ≡ Some a → result_after n x ≡ formula → result_after n a ≡ formula
 of_type n x a e f = subst (λ b. result_after n b ≡ formula) (same_Some x a e) f
-
--- a head that has a type where another type is declared
-of_declared : (d : Bool) (n : ℕ) (x a : SimpleType) → (if d then Some x else None) ≡ Some a → result_after n x ≡ formula → result_after n a ≡ formula
-of_declared true n x a e f = of_type n x a e f
-of_declared false n x a e f = absurd cc
-
-pub falsity_makes : MakesFormula (constant falsity) 0
-falsity_makes scope ctx a e = of_type 0 formula a e refl
-
-pub negation_makes : MakesFormula (constant negation) 1
-negation_makes scope ctx a e = of_type 1 (arrow formula formula) a e refl
-
-pub implication_makes : MakesFormula (constant implication) 2
-implication_makes scope ctx a e = of_type 2 (arrow formula (arrow formula formula)) a e refl
-
-pub all_makes : (b : SimpleType) → MakesFormula (constant (all b)) 1
-all_makes b scope ctx a e = of_declared (is_declared scope.bases b) 1 (arrow (predicate b) formula) a e refl
-
-pub equality_makes : (b : SimpleType) → MakesFormula (constant (equality b)) 2
-equality_makes b scope ctx a e = of_declared (is_declared scope.bases b) 2 (arrow b (predicate b)) a e refl
 
 module _ (scope : Scope) (ctx : List SimpleType) (t h : Lambda) (us : List Lambda) (n : ℕ) (leaf : IsLeaf t) (r : IsApplicable scope ctx t us) (is : h ≡ t) (l : n ≡ length us) (makes : MakesFormula h n) where
   typed : type_of scope ctx h ≡ Some r.term.type

@@ -154,10 +154,6 @@ outline_more o more ds d n h e next names = record {
     swap false true c = refl
     swap false false c = refl
 
--- no definitions
-pub outline_none : (o : Outline) → ((k : ℕ) → get nat_cmp o.nodes k ≡ None) → ((k : ℕ) → contains nat_cmp o.involved k ≡ false) → IsOutline o []
-outline_none o h k = record { nodes_are = h; involved_are = k }
-
 -- what may follow isn't too large
 pub may_small : (o : Outline) (ds : List Definition) (d : Definition) → IsOutline o ds → may_follow ds (in_terms_of ds d) ≡ true → nodes_in o.nodes d.term ≤ node_limit
 may_small o ds d h k = leb-true (nodes_in o.nodes d.term) node_limit (ap (λ n. nat_le n node_limit) (sym (nodes-unfolded o.nodes ds h.nodes_are d.term)) ∙ (and_parts (nat_le (node_count (unfolded ds d.term)) node_limit) _ k).0)

@@ -51,9 +51,6 @@ term_whole xs bs h us taken whole after e k w =
     ∙ ap (λ l. with_symbols xs (choosing_symbols h ++ choosing_symbols_of l)) e
     ∙ ap (with_symbols xs) (sym (with_arguments h us) ∙ sym (under_binders bs (applied h us)) ∙ ap choosing_symbols w)
 
-pub head_only : (xs after : List Symbol) (h : Lambda) → after ≡ with_symbols xs (choosing_symbols h) → after ≡ with_symbols xs (choosing_symbols h ++ choosing_symbols_of [])
-head_only xs after h k = k ∙ ap (with_symbols xs) (sym (append-nil (choosing_symbols h)))
-
 -- PLACES
 
 pub found_first : (y : Symbol) (xs : List Symbol) (i : ℕ) (x : Symbol) → slice_get xs i ≡ Some x → true ≡ same_constant y.constant x.constant → ((j : ℕ) (z : Symbol) → j < i → slice_get xs j ≡ Some z → y.constant ≡ z.constant → ⊥) → IsFirstPlace y xs i

@@ -1,5 +1,5 @@
 -- Digits, and what is worth one everywhere.
-use Rattle.std.proofs.Common.{◌≡◌, ℕ, zero, suc, ◌+◌, ◌*◌, ◌/◌, ◌%◌, ◌^◌, ◌-◌, ◌<◌, ◌≤◌, refl, ap, ap₂, sym, subst, ◌∙◌, Bool, true, false, nat_eq, if◌then◌else◌, arith, ⊎_elim, eq-eqb, eqb-true, le_of_suc-le-suc, mul-le-mul_right}
+use Rattle.std.proofs.Common.{◌≡◌, ℕ, zero, suc, ◌+◌, ◌*◌, ◌/◌, ◌%◌, ◌^◌, ◌-◌, ◌<◌, ◌≤◌, refl, ap, sym, subst, ◌∙◌, Bool, true, false, nat_eq, if◌then◌else◌, arith, ⊎_elim, eqb-true, le_of_suc-le-suc, mul-le-mul_right}
 use Rattle.std.proofs.Math.Nat.{div-div-eq-div-mul, pow-succ', pow-le-pow_right, eq-or-lt_of_le, zero-div, zero-mod}
 use Rattle.std.proofs.lemmas.Nat.{pow-add}
 use Rattle.stt_core.specs.Digits.{entry, table}
@@ -15,11 +15,6 @@ digits_off f b i rest e =
     ∙ ap (λ x. f / x) (omega (arith, pow-succ' b i) ∙ ap (λ j. b ^ j) (sym q))
 
 -- ONE EVERYWHERE
-
-pub one_more : (n : ℕ) (g : ℕ → ℕ) → all_one n g ≡ 1 → g n ≡ 1 → all_one (n + 1) g ≡ 1
-one_more n g h k =
-    let e : n + 1 ≡ suc n = omega arith in
-    ap (λ m. all_one m g) e ∙ ap (λ b. if b then all_one n g else 0) (eq-eqb (g n) 1 k) ∙ h
 
 not_one : (x : ℕ) → (x ≡ 1 → ⊥) → nat_eq x 1 ≡ false
 not_one x h = go (nat_eq x 1) refl
@@ -60,16 +55,6 @@ next_entry b n x g d sum power small l below e s p =
     let product : d * power ≡ d * b ^ x = ap (λ y. d * y) p in
     let power_is : power * b ≡ b ^ x * b = ap (λ y. y * b) p in
     record { product = omega arith; whole = omega arith; scaled = omega arith }
-
-pub table_more : (b x : ℕ) (g : ℕ → ℕ) (d sum power : ℕ) → d ≡ g x → sum ≡ table b x g → power ≡ b ^ x → sum + d * power ≡ table b (x + 1) g
-table_more b x g d sum power e s p =
-    let q : x + 1 ≡ suc x = omega arith in
-    ap₂ (λ u v. u + v) s (ap₂ (λ u v. u * v) e p) ∙ ap (λ j. table b j g) (sym q)
-
-pub power_more : (b x power : ℕ) → power ≡ b ^ x → power * b ≡ b ^ (x + 1)
-power_more b x power p =
-    let q : x + 1 ≡ suc x = omega arith in
-    ap (λ y. y * b) p ∙ omega (arith, pow-succ' b x) ∙ ap (λ j. b ^ j) (sym q)
 
 -- where nothing is left of a number, its further digits are 0
 pub no_digit : (b f i j rest : ℕ) → rest ≡ f / b ^ i → rest ≡ 0 → i ≤ j → 0 ≡ entry b f j

@@ -17,7 +17,7 @@ use Rattle.stt_core.proofs.ListLaws.{slice_get-append, slice_get-end, mapped_get
 use Rattle.stt_core.proofs.ValueLaws.{value-lt}
 use Rattle.normal_forms.specs.Normal.{normal_form}
 use Rattle.normal_forms.proofs.NormalValues.{canonical-normal_form, value-normal_form}
-use Rattle.finite_models.specs.Sizes.{size_in, IsSmallType, NamesSmallTypes}
+use Rattle.finite_models.specs.Sizes.{size_in, NamesSmallTypes}
 use Rattle.finite_models.specs.Symbols.{Symbol, EachIsSmall, EachNamesSmallTypes, value_lists, conjectures, normal_formulas, model_symbols, choosing_symbols_of, with_symbols}
 use Rattle.finite_models.specs.Candidates.{IsLawful, IsCandidate, IsEarlierCandidate, model_of}
 use Rattle.finite_models.specs.Small.{CandidateMeets, NoneMeets, IsFirstCandidate}
@@ -32,11 +32,6 @@ use Rattle.finite_models.proofs.RankLaws.{get_within, allowed-lt}
 use Rattle.finite_models.proofs.CompileLaws.{formula_small}
 
 -- SIZES
-
-pub each_small_get : (s : ℕ) (xs : List Symbol) (i : ℕ) (x : Symbol) → EachIsSmall s xs → slice_get xs i ≡ Some x → IsSmallType s x.type
-each_small_get s [] i x h g = cc
-each_small_get s (y ∷ xs) zero x h g = let e : y ≡ x = cc in subst (λ z. IsSmallType s z.type) e h.0
-each_small_get s (y ∷ xs) (suc i) x h g = each_small_get s xs i x h.1 g
 
 sizes_tail : (s : ℕ) (x : Symbol) (xs : List Symbol) (n : ℕ) (ns : List ℕ) → AreSizes s (x ∷ xs) (n ∷ ns) → AreSizes s xs ns
 sizes_tail s x xs n ns h = record { count = let c = h.count in omega arith; each = λ i y g. h.each (suc i) y g }
@@ -139,11 +134,6 @@ some_check (c ∷ cs) (suc i) l = some_check cs i (omega arith)
 each_meets : (scope : Scope) (m : Model) (ts : List Lambda) → ((i : ℕ) (t : Lambda) → slice_get ts i ≡ Some t → MeetsFormula scope m t) → MeetsFormulas scope m ts
 each_meets scope m [] h = tt
 each_meets scope m (t ∷ ts) h = (h 0 t refl, each_meets scope m ts (λ i u g. h (suc i) u g))
-
-meets_at : (scope : Scope) (m : Model) (ts : List Lambda) → MeetsFormulas scope m ts → (i : ℕ) (t : Lambda) → slice_get ts i ≡ Some t → MeetsFormula scope m t
-meets_at scope m [] h i t g = cc
-meets_at scope m (u ∷ ts) h zero t g = let e : u ≡ t = cc in subst (MeetsFormula scope m) e h.0
-meets_at scope m (u ∷ ts) h (suc i) t g = meets_at scope m ts h.1 i t g
 
 pub formula_at : (scope : Scope) (ts : List Lambda) → AreFormulas scope ts → (i : ℕ) (t : Lambda) → slice_get ts i ≡ Some t → IsFormula scope t
 formula_at scope [] h i t g = cc

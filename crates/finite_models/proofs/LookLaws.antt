@@ -1,5 +1,5 @@
 -- What the calls of the search for models owe, and what they give.
-use Rattle.std.proofs.Common.{◌≡◌, ℕ, zero, suc, ◌+◌, ◌*◌, ◌-◌, ◌^◌, ◌<◌, ◌≤◌, ◌↔◌, List, [], ◌∷◌, ◌++◌, length, map, take, Option, Some, None, Bool, false, slice_get, slice_index, slice_index_or, option_map, refl, ap, ap₂, sym, subst, ◌∙◌, ◌⊎◌, inl, inr, ⊎_elim, arith, append-nil, mul-le-mul_right, mul-le-mul_left}
+use Rattle.std.proofs.Common.{◌≡◌, ℕ, zero, suc, ◌+◌, ◌*◌, ◌-◌, ◌^◌, ◌<◌, ◌≤◌, ◌↔◌, List, [], ◌∷◌, ◌++◌, length, map, take, Option, Some, None, Bool, false, slice_get, slice_index, slice_index_or, option_map, refl, ap, ap₂, sym, subst, ◌∙◌, ◌⊎◌, inl, inr, ⊎_elim, arith, mul-le-mul_right, mul-le-mul_left}
 use Rattle.std.proofs.Math.Nat.{eq-or-lt_of_le}
 use Rattle.std.proofs.lemmas.Nat.{pow_below}
 use Rattle.stt_core.specs.SimpleType.{SimpleType, arrow, predicate}
@@ -29,11 +29,6 @@ use Rattle.finite_models.proofs.CandidateLaws.{candidate_model}
 use Rattle.finite_models.proofs.SufficeLaws.{none_of_size}
 
 -- NORMAL FORMS
-
-pub forms_none : (p : PlainProblem) (ts : List Lambda) → p.conjecture ≡ None → ts ≡ map (normal_form (scope_of p.declared) []) p.assumed → ts ≡ normal_formulas p
-forms_none p ts c e =
-    let nf = normal_form (scope_of p.declared) [] in
-    e ∙ ap (map nf) (sym (append-nil p.assumed)) ∙ ap (λ o. map nf (p.assumed ++ conjectures o)) (sym c)
 
 pub forms_some : (p : PlainProblem) (t f : Lambda) (ts after : List Lambda) → p.conjecture ≡ Some t → ts ≡ map (normal_form (scope_of p.declared) []) p.assumed → f ≡ normal_form (scope_of p.declared) [] t → after ≡ ts ++ f ∷ [] → after ≡ normal_formulas p
 forms_some p t f ts after c e k w =
@@ -98,18 +93,6 @@ pub whole_small : (s : ℕ) (bs : List SimpleType) (h : Lambda) (us : List Lambd
 whole_small s bs h us whole e b k l = subst (NamesSmallTypes s) e (whole_binders s bs (applied h us) b (whole_arguments s h us k l))
 
 -- CHOOSERS
-
--- the size of a chooser's type
-pub chooser_size_is : (s : ℕ) (a : SimpleType) (n p m : ℕ) → IsSmallType s a → n ≡ size_in s a → p ≡ 2 ^ n → p ≤ 2 ^ 20 → m ≡ n ^ p → m ≤ 2 ^ 20 → 1 ≤ m → IsSizeOf s (arrow (predicate a) a) m
-chooser_size_is s a n p m small e q few w most pos =
-    let size : 2 ^ size_in s a ≡ p = ap (λ x. 2 ^ x) (sym e) ∙ sym q in
-    let is : m ≡ size_in s a ^ 2 ^ size_in s a = w ∙ ap₂ (λ x y. x ^ y) e (sym size) in
-    record {
-      small = (subst (λ x. x ≤ 2 ^ 20) is most, ((subst (λ x. x ≤ 2 ^ 20) (sym size) few, (small, omega arith)), small));
-      is = is;
-      pos = pos;
-      few = omega arith;
-    }
 
 -- how many values a small chooser's type is on
 pub few_chosen : (s : ℕ) (a : SimpleType) (n : ℕ) → n ≡ size_in s a → IsSmallType s (arrow (predicate a) a) → n ≤ 20

@@ -1,11 +1,10 @@
 -- The first group of each type.
-use Rattle.std.specs.Prelude.{◌≡◌, ℕ, suc, Bool, true, false, List, [], ◌∷◌, ◌++◌, length, Option, Some, None, slice_get, if◌then◌else◌, refl, map, filter, nat_eq}
-use Rattle.std.specs.List.{list_any}
+use Rattle.std.specs.Prelude.{◌≡◌, ℕ, suc, Bool, true, false, List, [], ◌∷◌, ◌++◌, length, Option, Some, None, slice_get, if◌then◌else◌, refl, map, filter}
 use Rattle.std.proofs.Common.{set, sym, ap, ap₂, ◌∙◌, true≢false, arith}
 use Rattle.std.proofs.lemmas.Option.{same_Some}
 use Rattle.stt_core.specs.SimpleType.{SimpleType, same_type}
 use Rattle.stt_core.proofs.TypeLaws.{same_type-true}
-use Rattle.instantiate.specs.Listing.{Listing, ids_of, with_listed}
+use Rattle.instantiate.specs.Listing.{Listing, ids_of}
 use Rattle.instantiate.specs.Internal.Groups.{Group, first_group, group_place, AreRightGroups, HasOneMore}
 
 -- what stands at the place of a type
@@ -74,19 +73,6 @@ at_end a (k ∷ gs) h = go (same_type a k.0) (at_end a gs) h
     go true rest h = absurd (omega (arith, h))
     go false rest h = rest (omega (arith, h))
 
--- one more term
-ids-end : (all : List Listing) (a c : SimpleType) (id : ℕ) → ids_of c (all ++ (a, id) ∷ []) ≡ (if same_type c a then ids_of c all ++ id ∷ [] else ids_of c all)
-ids-end [] a c id = go (same_type c a)
-  where
-    go : (s : Bool) → map (λ (l : Listing). l.1) (if s then (a, id) ∷ [] else []) ≡ (if s then id ∷ [] else [])
-    go true = refl
-    go false = refl
-ids-end (l ∷ all) a c id = go (same_type c l.0) (ids-end all a c id)
-  where
-    under : (s : Bool) (xs ys : List ℕ) → l.1 ∷ (if s then xs else ys) ≡ (if s then l.1 ∷ xs else l.1 ∷ ys)
-    under true xs ys = refl
-    under false xs ys = refl
-
     go : (t : Bool) → ids_of c (all ++ (a, id) ∷ []) ≡ (if same_type c a then ids_of c all ++ id ∷ [] else ids_of c all)
         → map (λ (x : Listing). x.1) (if t then l ∷ filter (λ (x : Listing). same_type c x.0) (all ++ (a, id) ∷ []) else filter (λ (x : Listing). same_type c x.0) (all ++ (a, id) ∷ []))
         ≡ (if same_type c a then map (λ (x : Listing). x.1) (if t then l ∷ filter (λ (x : Listing). same_type c x.0) all else filter (λ (x : Listing). same_type c x.0) all) ++ id ∷ [] else map (λ (x : Listing). x.1) (if t then l ∷ filter (λ (x : Listing). same_type c x.0) all else filter (λ (x : Listing). same_type c x.0) all))
@@ -114,11 +100,6 @@ more_new gs after a id at is c =
     ∙ by_type a c (id ∷ []) (first_group c gs) (first_group c gs ++ id ∷ []) (first_group c gs)
     (λ e. ap (λ is. is ++ id ∷ []) (sym (at_end a gs at) ∙ ap (λ x. first_group x gs) (sym (same_type-true c a e)))) refl
 
-pub more_right : (gs after : List Group) (all : List Listing) (a : SimpleType) (id : ℕ) → AreRightGroups gs all → HasOneMore a id gs after → AreRightGroups after (all ++ (a, id) ∷ [])
-more_right gs after all a id right more c =
-    more c ∙ by_type a c (first_group c gs ++ id ∷ []) (first_group c gs) (ids_of c all ++ id ∷ []) (ids_of c all) (λ e. ap (λ is. is ++ id ∷ []) (right c)) (right c)
-    ∙ sym (ids-end all a c id)
-
 here_place : (gs ss ds : List Group) (a : SimpleType) (n : ℕ) (o : Option Group) → ss ≡ gs → n ≡ group_place a ss → ds ≡ gs → slice_get ds n ≡ o → slice_get gs (group_place a gs) ≡ o
 here_place gs ss ds a n o same at deref h = ap₂ slice_get (sym deref) (ap (group_place a) (sym same) ∙ sym at) ∙ h
 
@@ -128,9 +109,3 @@ shown gs ss ds all a n g right same at deref h = sym (at_place a gs g (here_plac
 
 pub none_shown : (gs ss ds : List Group) (all : List Listing) (a : SimpleType) (n : ℕ) → AreRightGroups gs all → ss ≡ gs → n ≡ group_place a ss → ds ≡ gs → slice_get ds n ≡ None → [] ≡ ids_of a all
 none_shown gs ss ds all a n right same at deref h = sym (no_place a gs (here_place gs ss ds a n None same at deref h)) ∙ right a
-
-pub with_new : (all after : List Listing) (a : SimpleType) (id : ℕ) → list_any (nat_eq id) (ids_of a all) ≡ false → after ≡ all ++ (a, id) ∷ [] → after ≡ with_listed a id all
-with_new all after a id h e = e ∙ sym (ap (λ (b : Bool). if b then all else all ++ (a, id) ∷ []) h)
-
-pub with_old : (all : List Listing) (a : SimpleType) (id : ℕ) → list_any (nat_eq id) (ids_of a all) ≡ true → all ≡ with_listed a id all
-with_old all a id h = sym (ap (λ (b : Bool). if b then all else all ++ (a, id) ∷ []) h)

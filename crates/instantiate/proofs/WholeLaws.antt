@@ -1,6 +1,6 @@
 -- Partial terms without holes.
-use Rattle.std.specs.Prelude.{◌≡◌, ◌≤◌, ℕ, zero, suc, List, [], ◌∷◌, length, map, take, Option, Some, None, option_map, option_and_then, slice_get, refl}
-use Rattle.std.proofs.Common.{ap, ap₂, sym, ◌∙◌, subst, take_all}
+use Rattle.std.specs.Prelude.{◌≡◌, ℕ, zero, suc, List, [], ◌∷◌, map, Option, Some, None, option_map, option_and_then, slice_get, refl}
+use Rattle.std.proofs.Common.{ap, ap₂, sym, ◌∙◌, subst}
 use Rattle.std.proofs.lemmas.Option.{same_Some, slice_get-map}
 use Rattle.stt_core.specs.SimpleType.{SimpleType}
 use Rattle.stt_core.specs.Lambda.{Lambda, lam, app, applied}
@@ -11,7 +11,7 @@ use Rattle.term_bank.specs.Content.{Content, content_scope, HasTerm, Grows}
 use Rattle.term_bank.specs.Terms.{term_at, IsTypedTerm}
 use Rattle.term_bank.proofs.GrowLaws.{grows_itself, grown_scope, has_at}
 use Rattle.term_bank.proofs.TypeLaws.{body_of}
-use Rattle.term_bank.proofs.TreeLaws.{AreImported, argument_ready}
+use Rattle.term_bank.proofs.TreeLaws.{argument_ready}
 use Rattle.instantiate.specs.PartialView.{applications}
 use Rattle.instantiate.specs.Internal.Holes.{base_in, base_among}
 use Rattle.instantiate.specs.Internal.Blanks.{term_of}
@@ -70,9 +70,6 @@ at_typed old new ps i p g typed at =
 
 pub map-at : (ps : List Partial) (i : ℕ) (p : Partial) → slice_get ps i ≡ Some p → slice_get (map term_of ps) i ≡ Some (term_of p)
 map-at ps i p at = slice_get-map term_of ps i ∙ ap (option_map term_of) at
-
-pub all_have : (old new : Content) (us : List Lambda) (ids : List ℕ) (i : ℕ) → AreImported old new (take i us) ids → length us ≤ i → HaveTerms new ids us
-all_have old new us ids i r past = record { within = r.within; are = r.are ∙ take_all i us past }
 
 pub spine_same : (b : Content) (h : Lambda) (ids slice : List ℕ) (us : List Lambda) → HaveTerms b ids us → slice ≡ ids → applied h (map (term_at b.terms) slice) ≡ applied h us
 spine_same b h ids slice us r e = ap (applied h) (ap (map (term_at b.terms)) e ∙ r.are)

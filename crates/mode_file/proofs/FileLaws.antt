@@ -1,11 +1,11 @@
 -- Files line by line: what was read so far.
-use Rattle.std.proofs.Common.{◌≡◌, ℕ, ◌+◌, ◌<◌, ◌≤◌, false, List, [], ◌∷◌, ◌++◌, length, refl, sym, ap, ◌∙◌, subst, arith, append_assoc, length-append, append-nil}
+use Rattle.std.proofs.Common.{◌≡◌, ℕ, ◌+◌, ◌<◌, ◌≤◌, false, List, [], ◌∷◌, ◌++◌, length, refl, sym, ap, ◌∙◌, subst, arith, append_assoc, length-append}
 use Rattle.mode_file.specs.declared.Mode.{Mode}
 use Rattle.mode_file.specs.declared.given.Given.{Given}
 use Rattle.mode_file.specs.declared.refused.Cause.{Cause}
 use Rattle.mode_file.specs.Given.{nothing_given, mode_of, IsInRange}
 use Rattle.outside.specs.Lines.{lines_of}
-use Rattle.mode_file.specs.Grammar.{says_nothing, IsGoodLine, AreGoodLines, IsBadFor, States, IsFirstBad}
+use Rattle.mode_file.specs.Grammar.{says_nothing, IsGoodLine, AreGoodLines, IsBadFor, IsFirstBad}
 use Rattle.mode_file.proofs.RangeLaws.{mode_in_range}
 
 pub AreGood-last : (lines : List (List ℕ)) (line : List ℕ) (before between after : Given) → AreGoodLines before lines between → IsGoodLine between line after → AreGoodLines before (lines ++ line ∷ []) after
@@ -20,9 +20,6 @@ pub record IsReadTo (bytes rest : List ℕ) (given : Given) (count : ℕ) : Type
   pub count_is : count ≡ length before
   pub room : count + length rest ≤ length bytes
 
-pub none_read : (bytes : List ℕ) → IsReadTo bytes bytes nothing_given 0
-none_read bytes = record { before = []; lines_are = refl; good = refl; count_is = refl; room = omega arith }
-
 pub one_more_read : (bytes rest line behind : List ℕ) (given after : Given) (count : ℕ) → IsReadTo bytes rest given count → lines_of rest ≡ line ∷ lines_of behind → length behind < length rest → IsGoodLine given line after → IsReadTo bytes behind after (count + 1)
 one_more_read bytes rest line behind given after count r cut shorter good = record {
   before = r.before ++ line ∷ [];
@@ -31,11 +28,6 @@ one_more_read bytes rest line behind given after count r cut shorter good = reco
   count_is = ap (λ n. n + 1) r.count_is ∙ sym (length-append r.before (line ∷ []));
   room = let had = r.room in omega (arith, had, shorter);
 }
-
-pub all_read : (bytes rest : List ℕ) (given : Given) (count : ℕ) (mode : Mode) → IsReadTo bytes rest given count → rest ≡ [] → mode ≡ mode_of given → States (lines_of bytes) mode
-all_read bytes rest given count mode r none e =
-    let lines_are = r.lines_are ∙ ap (λ (bs : List ℕ). r.before ++ lines_of bs) none ∙ append-nil r.before in
-    record { given = given; good = subst (λ (ls : List (List ℕ)). AreGoodLines nothing_given ls given) (sym lines_are) r.good; mode_is = e }
 
 pub bad_read : (bytes rest line behind : List ℕ) (given : Given) (count : ℕ) (cause : Cause) → IsReadTo bytes rest given count → lines_of rest ≡ line ∷ lines_of behind → says_nothing line ≡ false → IsBadFor given line cause → IsFirstBad (lines_of bytes) (count + 1) cause
 bad_read bytes rest line behind given count cause r cut says bad = record {

@@ -11,7 +11,7 @@ use Rattle.mode_file.proofs.RangeLaws.{mode_in_range}
 use Rattle.outside.specs.Lines.{lines_of}
 use Rattle.mode_schedule.specs.declared.Block.{Block}
 use Rattle.mode_schedule.specs.Internal.Refused.{bad_line_of}
-use Rattle.mode_schedule.specs.Grammar.{most_blocks, greatest_slice, is_slice_line, IsSlice, AreInBlock, BeginWithSlice, AreSilent, IsBlock, AreBlocks, HaveBlocks, HaveNoBlock, IsBadInBlock}
+use Rattle.mode_schedule.specs.Grammar.{most_blocks, greatest_slice, is_slice_line, IsSlice, AreInBlock, BeginWithSlice, AreSilent, IsBlock, AreBlocks, HaveBlocks, IsBadInBlock}
 
 -- lists of lines with one more
 
@@ -104,13 +104,6 @@ pub all_read : (bytes rest : List ℕ) (blocks : List Block) (line : ℕ) → Is
 all_read bytes rest blocks line r none =
     let all : lines_of bytes ≡ r.before = r.lines_are ∙ ap (λ (xs : List ℕ). r.before ++ lines_of xs) none ∙ append-nil r.before in
     subst (λ (ls : List (List ℕ)). HaveBlocks ls blocks) (sym all) r.have
-
-pub none_read : (bytes rest : List ℕ) (blocks : List Block) (line : ℕ) → IsReadTo bytes rest blocks line → rest ≡ [] → blocks ≡ [] → HaveNoBlock (lines_of bytes) (line + 1)
-none_read bytes rest blocks line r none empty =
-    let all : lines_of bytes ≡ r.before = r.lines_are ∙ ap (λ (xs : List ℕ). r.before ++ lines_of xs) none ∙ append-nil r.before in
-    let have : HaveBlocks (lines_of bytes) [] = subst (HaveBlocks (lines_of bytes)) empty (all_read bytes rest blocks line r none) in
-    let silent : lines_of bytes ≡ have.preface = have.lines_are ∙ ap (λ (ls : List (List ℕ)). have.preface ++ ls) have.are_blocks ∙ append-nil have.preface in
-    record { silent = subst AreSilent (sym silent) have.silent; number_is = omega (arith, r.line_is, ap length all) }
 
 -- the ranges of blocks
 

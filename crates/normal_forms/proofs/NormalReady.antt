@@ -120,12 +120,6 @@ head_returns scope ctx t h nf a b us n o r e p l q k =
     ∙ ap (λ c. apply_each (eta_if c t) us) (sym typed)
     ∙ ap (λ x. apply_each x us) (sym (normal_form-leaf scope ctx t o))
 
-pub head_typed : (scope : Scope) (ctx : List SimpleType) (t h : Lambda) (us : List Lambda) → IsApplicable scope ctx t us → h ≡ t → None ≡ type_of scope ctx h → ⊥
-head_typed scope ctx t h us r e p =
-    let found = r.term.has_type in
-    let typed : type_of scope ctx t ≡ None = ap (type_of scope ctx) (sym e) ∙ sym p in
-    cc
-
 -- A WHOLE TERM
 
 AreDeclared-append : (bases : ℕ) (as' bs : List SimpleType) → AreDeclared bases as' → AreDeclared bases bs → AreDeclared bases (as' ++ bs)

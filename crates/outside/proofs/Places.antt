@@ -1,11 +1,9 @@
 -- Where a name stands among files, and what its file contains.
-use Rattle.std.proofs.Common.{◌≡◌, ◌<◌, ◌≤◌, ◌+◌, ◌∙◌, ℕ, zero, suc, Bool, cond, not, List, [], ◌∷◌, Some, None, length, map, ap, get_or, arith, refl, sym}
+use Rattle.std.proofs.Common.{◌≡◌, ◌<◌, ◌≤◌, ◌+◌, ◌∙◌, ℕ, zero, suc, Bool, cond, not, List, [], ◌∷◌, Some, None, length, map, ap, arith, refl}
 use Rattle.std.proofs.lemmas.List.Folds.{find_at}
 use Rattle.std.specs.Prelude.{slice_get}
 use Rattle.std.specs.List.{position_or_len}
 use Rattle.std.specs.Option.{option_map}
-use Rattle.outside.specs.declared.file_list.Entry.{Entry}
-use Rattle.outside.specs.Entry.{files_of}
 use Rattle.outside.specs.FileList.{file_place, content_of, bytes_at}
 
 pub position_or_len-map : {X Y : Type 0} (f : X → Y) (p : Y → Bool) (xs : List X) → position_or_len p (map f xs) ≡ position_or_len (λ x. p (f x)) xs
@@ -32,9 +30,3 @@ content_within files name within = content_at files name ∙ bytes_within files 
 -- a name whose place is the end has no file
 pub content_past : (files : List (List ℕ × List ℕ)) (name : List ℕ) → length files ≤ file_place files name → content_of files name ≡ None
 content_past files name past = content_at files name ∙ bytes_past files _ past
-
--- the bytes at a place are those of the entry there
-pub bytes_at-map : (entries : List Entry) (place : ℕ) (entry : Entry) → place < length entries → entry ≡ get_or entries place entry → bytes_at (files_of entries) place ≡ entry.bytes
-bytes_at-map [] place entry within at = absurd (omega arith)
-bytes_at-map (e ∷ entries) zero entry within at = ap (λ (x : Entry). x.bytes) (sym at)
-bytes_at-map (e ∷ entries) (suc place) entry within at = bytes_at-map entries place entry (omega arith) at

@@ -1,5 +1,5 @@
 // Reads whole files.
-ghost use Rattle.std.specs.Prelude.{◌≡◌, ◌≤◌, ◌<◌, List, ℕ, Some, length, IfOk, IsErrOf, IsTrue};
+ghost use Rattle.std.specs.Prelude.{◌≡◌, ◌≤◌, ◌<◌, ◌++◌, List, ℕ, Some, length, IfOk, OnOk, IsErrOf, IsTrue};
 ghost use Rattle.outside.specs.Causes.{Rose};
 
 use crate::{Bytes, Files};
@@ -43,17 +43,46 @@ pub fn read_whole<F: Files>(
     ensures later { (other : List ℕ) → F.faults files.old other ≤ F.faults files.new other }
     ensures same { F.seen files.new ≡ F.seen files.old }
 {
-    let mut bytes = Bytes::new(alloc);
     if files.open_file(name).is_err() {
         return Err(ReadRefused::Fault);
     }
+    let mut bytes = Bytes::new(alloc);
+    read_rest(files, name, limit, &mut bytes)?;
+    Ok(bytes)
+}
+
+/// Appends what is left of the current file, which goes by this name.
+fn read_rest<F: Files>(
+    files: &mut F,
+    name: &str,
+    limit: usize,
+    bytes: &mut Bytes,
+) -> Result<(), ReadRefused>
+    requires current { IsTrue (F.has_current files.old) }
+    requires named { F.goes_by files.old name.now }
+    requires short { length bytes.old ≤ limit }
+    requires read { IsTrue (F.seen files.old).tells
+        → (F.seen files.old).contents name.now ≡ Some (bytes.old ++ F.left files.old) }
+    ensures whole { OnOk result (IsTrue (F.seen files.old).tells
+        → (F.seen files.old).contents name.now ≡ Some bytes.new) }
+    ensures short { OnOk result (length bytes.new ≤ limit) }
+    ensures fault { IsErrOf result ReadRefused.Fault
+        → Rose (F.faults files.old name.now) (F.faults files.new name.now) }
+    ensures long { IsErrOf result ReadRefused.TooLong → IsTrue (F.seen files.old).tells
+        → (bytes : List ℕ) × ((F.seen files.old).contents name.now ≡ Some bytes) × (limit < length bytes) }
+    ensures quiet { (IsErrOf result ReadRefused.Fault → ⊥)
+        → (other : List ℕ) → F.faults files.new other ≡ F.faults files.old other }
+
+    ensures later { (other : List ℕ) → F.faults files.old other ≤ F.faults files.new other }
+    ensures same { F.seen files.new ≡ F.seen files.old }
+{
     let mut buf = [0; BUFFER];
     loop {
         let Ok(count) = files.read(&mut buf) else {
             return Err(ReadRefused::Fault);
         };
         if count == 0 {
-            return Ok(bytes);
+            return Ok(());
         }
         if count > limit - bytes.len() {
             return Err(ReadRefused::TooLong);

@@ -1,9 +1,9 @@
 -- The literals of a start by numbers, one after the other.
-use Rattle.std.proofs.Common.{◌≡◌, ◌<◌, ℕ, ◌+◌, List, [], ◌∷◌, ◌++◌, Option, Some, None, Bool, true, false, map, option_map, length, take, slice_get, refl, ap, ap₂, sym, subst, ◌∙◌, append-nil, append_assoc, arith, length-append}
+use Rattle.std.proofs.Common.{◌≡◌, ◌<◌, ℕ, ◌+◌, List, [], ◌∷◌, ◌++◌, Option, Some, None, Bool, true, false, map, option_map, length, take, slice_get, refl, ap, ap₂, sym, subst, ◌∙◌, append_assoc, arith, length-append}
 use Rattle.std.specs.Prelude.{All}
 use Rattle.std.proofs.lemmas.List.{map-append}
-use Rattle.std.proofs.lemmas.List.Elements.{All-nil, All-head, All-tail, All-push, All-weaker}
-use Rattle.std.proofs.lemmas.Option.{get_or_from_slice_get, slice_get_within}
+use Rattle.std.proofs.lemmas.List.Elements.{All-head, All-tail, All-push, All-weaker}
+use Rattle.std.proofs.lemmas.Option.{get_or_from_slice_get}
 use Rattle.sat_base.specs.declared.literal.SatLit.{SatLit}
 use Rattle.stt_core.specs.Lambda.{Lambda, bound}
 use Rattle.stt_core.specs.Typing.{Scope}
@@ -28,9 +28,6 @@ use Rattle.problem_start.specs.Unfolds.{unfolded_if, definitions_if, left_if, st
 
 -- TABLES THAT GROW
 
-pub begins_itself : (xs : List ℕ) → Begins xs xs
-begins_itself xs = record { further = []; is = sym (append-nil xs) }
-
 pub begins_on : (xs ys zs : List ℕ) → Begins xs ys → Begins ys zs → Begins xs zs
 begins_on xs ys zs g h = record { further = g.further ++ h.further; is = h.is ∙ ap (λ l. l ++ h.further) g.is ∙ append_assoc xs g.further h.further }
 
@@ -50,9 +47,6 @@ numbers_grown a b g xs ys atoms begins ls ns h = record {
 
 -- ONE LITERAL MORE
 
-pub numbers_none : (b : Content) (xs : List ℕ) (ns : List SatLit) → ns ≡ [] → AreStartNumbers b xs [] ns
-numbers_none b xs ns e = subst (AreStartNumbers b xs []) (sym e) (record { numbers = All-nil (λ (n : SatLit). n.var.0 < length xs); literals = refl })
-
 pub numbers_push : (b : Content) (xs : List ℕ) (ls : List Literal) (ns more : List SatLit) (l : Literal) (n : SatLit) → AreStartNumbers b xs ls ns → n.var.0 < length xs → bank_literal b.terms xs n ≡ l → more ≡ ns ++ n ∷ [] → AreStartNumbers b xs (ls ++ l ∷ []) more
 numbers_push b xs ls ns more l n h w is e =
     subst (AreStartNumbers b xs (ls ++ l ∷ [])) (sym e) (record {
@@ -70,9 +64,6 @@ formulas_more ts places j i t h k =
     ap (formulas_at ts) (take_got places j i h)
     ∙ map-append (term_at ts) (take j places) (i ∷ [])
     ∙ ap (λ s. formulas_at ts (take j places) ++ s ∷ []) (get_or_from_slice_get ts i t (bound 0) k)
-
-pub place_within : (n : ℕ) (places : List ℕ) (j i : ℕ) → All (λ k. k < n) places → slice_get places j ≡ Some i → i < n
-place_within n places j i h e = subst (λ k. k < n) (get_or_from_slice_get places j i 0 e) (h j 0 (slice_get_within places j i e))
 
 -- THE START
 

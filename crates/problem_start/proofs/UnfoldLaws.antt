@@ -64,16 +64,6 @@ module _ (a b : Content) (g : Grows a b) (over : IsScope (content_scope a)) (u v
         typed = subst (λ s. AreTypedDefinitions s (ds ++ in_terms_of ds d ∷ [])) (sym (grown_scope a b g)) (subst (AreTypedDefinitions scope) next (typed_next scope ds mark t w.typed formula));
       })
 
--- where none is taken, nothing changes
-pub unfolding_past : (a : Content) (u v : Unfolding) (ds : List Definition) (mark : Bool) (t : Lambda) → IsUnfolding a u ds → taken_from ds mark t ≡ None → v.outline ≡ u.outline → v.forms ≡ u.forms → IsUnfolding a v (with_next ds mark t)
-unfolding_past a u v ds mark t w none outline forms =
-    subst (IsUnfolding a v) (sym (append-nil ds) ∙ ap (λ x. ds ++ option_to_list x) (sym none)) (record {
-      outline = subst (λ o. IsOutline o ds) (sym outline) w.outline;
-      forms = subst (AreForms a) (sym forms) w.forms;
-      definitions = ap (forms_in a.terms) forms ∙ w.definitions;
-      typed = w.typed;
-    })
-
 -- PLACES
 
 place_there : (ts : List Lambda) (i : ℕ) (t : Lambda) (o : Option Definition) → slice_get ts i ≡ Some t → formulas_at ts (place_unless o i) ≡ unless_taken o t []

@@ -38,12 +38,6 @@ chain-none (c ∷ older) = chain-kept c older 0 (omega arith) ∙ chain-none old
 pub extends-same : (cells : List Cell) → ExtendsCells cells cells
 extends-same cells = record { longer = omega arith; kept = λ k h. refl }
 
-pub extends-cell : (c : Cell) (older : List Cell) → ExtendsCells older (c ∷ older)
-extends-cell c older = record { longer = omega arith; kept = λ k h. chain-kept c older k h }
-
-pub extends-later : (a b c : List Cell) → ExtendsCells a b → ExtendsCells b c → ExtendsCells a c
-extends-later a b c e f = record { longer = omega (arith, e.longer, f.longer); kept = λ k h. f.kept k (omega (arith, h, e.longer)) ∙ e.kept k h }
-
 module _ (d : Cell) (older : List Cell) (n : ℕ) (c : Cell) (linked : AreChained (d ∷ older)) (e : c ≡ get_or (d ∷ older) (suc (length older) - suc n) c) where
   at_newest : n ≡ length older → (chain (d ∷ older) (suc n) ≡ c.0 ∷ chain (d ∷ older) c.1) × (c.1 ≤ n)
   at_newest s =

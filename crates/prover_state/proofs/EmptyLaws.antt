@@ -1,5 +1,5 @@
 -- Tables in which nothing was done yet.
-use Rattle.std.specs.Prelude.{◌≡◌, ◌<◌, ◌≤◌, ◌+◌, nat_eq, ℕ, zero, suc, Bool, true, false, List, [], ◌∷◌, ◌++◌, map, filter, drop, length, slice_get, Some, None, option_map, refl, if◌then◌else◌}
+use Rattle.std.specs.Prelude.{◌≡◌, ◌<◌, ◌≤◌, ◌+◌, nat_eq, ℕ, zero, suc, Bool, true, false, List, [], ◌∷◌, ◌++◌, map, filter, drop, length, slice_get, Some, option_map, refl, if◌then◌else◌}
 use Rattle.std.specs.List.{list_any}
 use Rattle.std.proofs.Common.{sym, ap, subst, ◌∙◌, arith}
 use Rattle.std.proofs.lemmas.Bool.{eqb-true, eq-eqb, ne_eqb}
@@ -109,11 +109,6 @@ pub got-typed : (cs : List TypedName) (i : ℕ) (a : SimpleType) → Some a ≡ 
 got-typed [] i a h = cc
 got-typed (c ∷ cs) zero a h = sym h
 got-typed (c ∷ cs) (suc i) a h = got-typed cs i a h
-
-pub got-none : (cs : List TypedName) (i : ℕ) → i < length cs → None ≡ option_map (λ (c : TypedName). c.type) (slice_get cs i) → ⊥
-got-none [] i h e = omega (arith, h)
-got-none (c ∷ cs) zero h e = cc
-got-none (c ∷ cs) (suc i) h e = got-none cs i (omega (arith, h)) e
 
 turned : (m n : ℕ) → nat_eq n m ≡ nat_eq m n
 turned m n = by_test (nat_eq n m) refl

@@ -1,6 +1,6 @@
 -- Heads that fit a hole, one after the other.
 use Rattle.std.specs.Prelude.{◌≡◌, ◌≢◌, ◌<◌, ◌≤◌, ◌+◌, ◌-◌, nat_eq, ℕ, zero, suc, Bool, true, false, List, [], ◌∷◌, ◌++◌, map, take, drop, get_or, length, slice_get, Option, Some, None, refl, if◌then◌else◌}
-use Rattle.std.proofs.Common.{sym, ap, ap₂, subst, ◌∙◌, arith, append-nil, append_assoc, length-append, take-append-drop, length-take-le}
+use Rattle.std.proofs.Common.{sym, ap, ap₂, subst, ◌∙◌, arith, append_assoc, length-append, take-append-drop, length-take-le}
 use Rattle.std.proofs.lemmas.List.{length-map}
 use Rattle.stt_core.specs.SimpleType.{SimpleType, base, target}
 use Rattle.stt_core.specs.Lambda.{Lambda, bound, constant, name, witness, all, equality}
@@ -23,17 +23,6 @@ use Rattle.tableau_calculus.specs.Witnesses.{Row, with_rows}
 use Rattle.prover_state.proofs.EachLaws.{each-weaker}
 
 -- PLACES BY TARGET TYPES
-
-pub places-step : (b i : ℕ) (types : List SimpleType) (a : SimpleType) (old new : List ℕ) (fits : Bool) → slice_get types i ≡ Some a → fits ≡ nat_eq (target a) b → new ≡ (if fits then old ++ i ∷ [] else old)
-    → new ++ places_to b (i + 1) (drop (i + 1) types) ≡ old ++ places_to b i (drop i types)
-places-step b i types a old new fits at e is =
-    ap (λ (xs : List ℕ). xs ++ rest) is ∙ go fits
-    ∙ ap (λ (x : Bool). old ++ (if x then i ∷ rest else rest)) e
-    ∙ ap (λ n. old ++ (if nat_eq (target a) b then i ∷ places_to b n (drop (i + 1) types) else places_to b n (drop (i + 1) types))) (let n : i + 1 ≡ suc i = omega arith in n)
-    ∙ ap (λ (ts : List SimpleType). old ++ places_to b i ts) (sym (drop_got types i a at))
-  where
-    rest : List ℕ
-    rest = places_to b (i + 1) (drop (i + 1) types)
 
     go : (x : Bool) → (if x then old ++ i ∷ [] else old) ++ rest ≡ old ++ (if x then i ∷ rest else rest)
     go true = append_assoc old (i ∷ []) rest
@@ -97,9 +86,6 @@ none-behind b i left place types past e within =
     let none : slice_get (places_to b i (drop i types)) left ≡ None = ap (λ (ts : List SimpleType). slice_get (places_to b i ts) left) (past_end types i past) in
     let some = e ∙ found.1 in
     cc
-
-pub places-done : (b i : ℕ) (types : List SimpleType) (items : List ℕ) → length types ≤ i → items ++ places_to b i (drop i types) ≡ places_to b 0 types → items ≡ places_to b 0 types
-places-done b i types items h e = sym (ap (λ (ts : List SimpleType). items ++ places_to b i ts) (past_end types i h) ∙ append-nil items) ∙ e
 
 -- what stands behind a first list
 pub get-behind : {X : Type 0} (xs ys : List X) (i : ℕ) → length xs ≤ i → slice_get (xs ++ ys) i ≡ slice_get ys (i - length xs)

@@ -80,9 +80,6 @@ universal-by t a l o e is =
     ∙ sym (ranges-quantified a (bank_atom t.basis.bank.terms t.basis.lits l.var.0))
     ∙ ap (ranges_by a) (sym is)
 
-pub universal-not : (t : Tables) (a : SimpleType) (l : SatLit) → l.positive ≡ false → is_universal t.basis.bank.terms t.basis.lits a l ≡ false
-universal-not t a l e = ap (λ (b : Bool). b && ranges_over a (bank_atom t.basis.bank.terms t.basis.lits l.var.0)) e
-
 -- A NOTED LITERAL MORE
 
 module _ (t : Tables) (q : Queue Planned Delays) (r : IsRightState t q) (l : SatLit) (number : IsNumberIn t.basis.lits l) where

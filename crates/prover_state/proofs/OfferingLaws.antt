@@ -1,6 +1,6 @@
 -- Numbers of what is offered, one after the other.
 use Rattle.std.specs.Prelude.{◌≡◌, ◌+◌, ◌-◌, ◌<◌, nat_eq, ℕ, suc, Bool, true, false, List, [], ◌∷◌, ◌++◌, map, filter, drop, slice_get, Some, refl, if◌then◌else◌}
-use Rattle.std.proofs.Common.{sym, ap, ◌∙◌, arith, append-nil, append_assoc}
+use Rattle.std.proofs.Common.{sym, ap, ◌∙◌, arith, append_assoc}
 use Rattle.stt_core.specs.SimpleType.{SimpleType, base, target}
 use Rattle.stt_core.proofs.ListLaws.{map-append, drop_got}
 use Rattle.search_spec.specs.Heads.{places_to, bases_from}
@@ -64,7 +64,3 @@ module _ (P : SimpleType → Bool) (i m : ℕ) (within : i < m) where
       ap (λ (xs : List SimpleType). map base old ++ xs) (sym (filter-left P (base n) later e))
       ∙ ap (λ k. map base old ++ filter P (base k ∷ later)) same
       ∙ ap (λ (xs : List SimpleType). map base old ++ filter P xs) (sym bases_are)
-
-pub bases-done : (P : SimpleType → Bool) (i m : ℕ) (items : List ℕ) (all : List SimpleType) → m ≡ i → map base items ++ filter P (bases_from (i + 1) (m - i)) ≡ all → map base items ≡ all
-bases-done P i m items all e is =
-    sym (ap (λ k. map base items ++ filter P (bases_from (i + 1) k)) (let z : m - i ≡ 0 = omega (arith, e) in z) ∙ append-nil (map base items)) ∙ is

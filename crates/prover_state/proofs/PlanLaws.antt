@@ -1,22 +1,13 @@
 -- The commands that wait have their numbers one after the other, as they come and go.
-use Rattle.std.specs.Prelude.{◌≡◌, ◌≢◌, ◌<◌, ℕ, suc, List, refl}
-use Rattle.std.specs.List.{All}
-use Rattle.std.proofs.Common.{sym, subst, arith, inl, inr}
+use Rattle.std.specs.Prelude.{◌≡◌, ◌<◌, ℕ, suc, List, refl}
+use Rattle.std.proofs.Common.{sym, subst, arith}
 use Rattle.command_queue.specs.declared.entry.Entry.{Entry}
 use Rattle.command_queue.specs.Queue.{Queue, AddsEntry, AddsEntryAt, TakesEntry}
 use Rattle.tableau_calculus.specs.Each.{Each}
 use Rattle.prover_state.specs.declared.command.Planned.{Planned}
 use Rattle.prover_state.specs.Internal.Pending.{span, EndsBelow, IsApart, AreSpaced}
-use Rattle.prover_state.proofs.EachLaws.{each-from_All, All-from_each, each-weaker, each-left, each-right}
+use Rattle.prover_state.proofs.EachLaws.{each-from_All, each-left, each-right}
 use Rattle.prover_state.proofs.SpacedLaws.{spaced-last, spaced-without, spaced-between, all_before, all_behind}
-
--- entries that are apart from one have other numbers
-pub numbers-apart : (e : Entry Planned) (es : List (Entry Planned)) → Each (IsApart e) es → All (λ x. x.number ≢ e.number) es
-numbers-apart e es h = All-from_each (λ (x : Entry Planned). x.number ≢ e.number) es (each-weaker (IsApart e) (λ x. x.number ≢ e.number) one es h)
-  where
-    one : (x : Entry Planned) → IsApart e x → x.number ≢ e.number
-    one x (inl k) q = omega (arith, k, q)
-    one x (inr k) q = omega (arith, k, q)
 
 module _ {R : Type 0} (old new : Queue Planned R) (spaced : AreSpaced old.entries old.pushes) where
   pub spaced-pushed : (numbers d : ℕ) (p : Planned) → numbers ≡ suc (span p) → AddsEntry old new numbers d p → AreSpaced new.entries new.pushes

@@ -15,14 +15,6 @@ use Rattle.prover_state.specs.Internal.Pending.{span, EndsBelow, AreSpaced}
 use Rattle.prover_state.proofs.EachLaws.{each-from_All, each-weaker, each-left, each-right}
 use Rattle.prover_state.proofs.SpacedLaws.{before_ends, behind_begins}
 
--- what comes before another thing doesn't come after it
-after_none : (a b c : Bool) → (c ≡ false) → (b ≡ true → a ≡ false) → (b || c) ≡ true → a ≡ false
-after_none a true c e f h = f refl
-after_none a false c e f h = absurd (no (sym e ∙ h))
-  where
-    no : false ≡ true → ⊥
-    no g = cc
-
 module _ {D : Type 0} where
   not_after : (p q : Entry D) → comes_before p q ≡ true → comes_before q p ≡ false
   not_after p q h = go (nat_lt p.due q.due) refl (p.due == q.due) refl (nat_lt p.number q.number) refl h

@@ -1,5 +1,5 @@
 -- The shapes of formulas.
-use Rattle.std.specs.Prelude.{◌≡◌, ℕ, Bool, true, false, List, [], ◌∷◌, map, slice_get, length, is_some, unwrap_or, Option, Some, None, refl, if◌then◌else◌}
+use Rattle.std.specs.Prelude.{◌≡◌, ℕ, Bool, true, false, List, [], ◌∷◌, map, slice_get, length, is_some, Option, Some, None, refl, if◌then◌else◌}
 use Rattle.std.proofs.Common.{ap, ap₂, ◌∙◌, arith}
 use Rattle.std.proofs.lemmas.Option.{same_Some}
 use Rattle.stt_core.specs.SimpleType.{SimpleType, formula, same_type}
@@ -9,7 +9,6 @@ use Rattle.stt_core.proofs.SpineLaws.{IsAtom}
 use Rattle.tableau_calculus.specs.Internal.Heads.{equality_of, quantified_by}
 use Rattle.search_spec.specs.Partners.{has_equal_sides}
 use Rattle.search_spec.specs.Terms.{ranges_over}
-use Rattle.prover_state.specs.Internal.Pending.{range_of}
 use Rattle.prover_state.specs.Internal.Shapes.{quantified_type}
 
 -- QUANTIFIED FORMULAS
@@ -47,24 +46,6 @@ pub quantified-single : (h : Lambda) (ts : List Lambda) → length ts ≡ 1 → 
 quantified-single h [] n = cc
 quantified-single h (t ∷ []) n = quantified-one h t
 quantified-single h (t ∷ u ∷ ts) n = absurd (omega (arith, n))
-
--- the type over which a formula ranges, or that of formulas
-pub range-quantified : (t : Lambda) → unwrap_or (quantified_type t) formula ≡ range_of t
-range-quantified (bound k) = refl
-range-quantified (constant c) = refl
-range-quantified (lam a s) = refl
-range-quantified (app (bound k) u) = refl
-range-quantified (app (lam a s) u) = refl
-range-quantified (app (app s t) u) = refl
-range-quantified (app (constant (name k)) u) = refl
-range-quantified (app (constant (witness k)) u) = refl
-range-quantified (app (constant falsity) u) = refl
-range-quantified (app (constant negation) u) = refl
-range-quantified (app (constant implication) u) = refl
-range-quantified (app (constant (all a)) u) = refl
-range-quantified (app (constant (equality a)) u) = refl
-range-quantified (app (constant (choice a)) u) = refl
-range-quantified (app (constant (description a)) u) = refl
 
 -- whether a type is that over which a formula ranges
 abbrev pub ranges_by : SimpleType → Option SimpleType → Bool

@@ -1,8 +1,7 @@
 -- Parts of loops of commands.
 use Rattle.std.specs.Prelude.{◌≡◌, ◌≤◌, ◌<◌, ◌+◌, ◌-◌, ℕ, zero, suc, Bool, true, false, List, [], ◌∷◌, ◌++◌, take, drop, length, nat_lt, slice_get, Some, None, refl, if◌then◌else◌}
-use Rattle.std.proofs.Common.{sym, ap, ◌∙◌, arith, ltb-true, ltb-false, take-append-drop, length-drop}
+use Rattle.std.proofs.Common.{sym, ap, ◌∙◌, arith, ltb-true, ltb-false, take-append-drop}
 use Rattle.std.proofs.lemmas.List.{drop-drop}
-use Rattle.std.proofs.Math.Seq.{take-length}
 use Rattle.stt_core.specs.Typing.{Scope}
 use Rattle.stt_core.proofs.ListLaws.{drop_got}
 use Rattle.search_spec.specs.State.{State, Command as Meant}
@@ -20,10 +19,6 @@ between-more next end xs x h e =
 -- nothing is between a place and an earlier one
 pub between-none : {X : Type 0} (next end : ℕ) (xs : List X) → end ≤ next → between next end xs ≡ []
 between-none next end xs h = ap (λ n. take n (drop next xs)) (let k : end - next ≡ 0 = omega (arith, h) in k)
-
--- the part from a place to the end
-pub between-all : {X : Type 0} (next end : ℕ) (xs : List X) → end ≡ length xs → between next end xs ≡ drop next xs
-between-all next end xs h = ap (λ n. take n (drop next xs)) (let k : end - next ≡ length (drop next xs) = omega (arith, h, length-drop next xs) in k) ∙ take-length (drop next xs)
 
 -- a part with what follows it
 pub between-then : {X : Type 0} (from next : ℕ) (xs : List X) → from ≤ next → between from next xs ++ drop next xs ≡ drop from xs

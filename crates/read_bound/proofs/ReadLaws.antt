@@ -1,5 +1,5 @@
 -- What is read of shallow trees is modest.
-use Rattle.std.proofs.Common.{◌≡◌, ◌≤◌, ◌+◌, ◌&&◌, ℕ, zero, suc, max, Bool, true, false, List, [], ◌∷◌, map, length, Option, Some, None, slice_get, option_map, refl, subst, if◌then◌else◌, arith}
+use Rattle.std.proofs.Common.{◌≤◌, ◌+◌, ◌&&◌, ℕ, zero, suc, max, Bool, true, false, List, [], ◌∷◌, map, length, Option, Some, None, slice_get, option_map, subst, if◌then◌else◌, arith}
 use Rattle.std.specs.Prelude.{Result, Ok, Err, IfOk, is_some}
 use Rattle.std.specs.Str.{bytes_eq}
 use Rattle.stt_core.specs.SimpleType.{SimpleType, base, arrow, formula, same_type}
@@ -62,10 +62,6 @@ IsTerm n x = (nesting x.type ≤ n) × IsModest M x.term
 
 abbrev AreTyped : List TypedName → Type 0
 AreTyped xs = Each (λ (x : TypedName). nesting x.type ≤ L) xs
-
-if_term : (at : ℕ) (n : ℕ) (o : Option TypedTerm) → ((x : TypedTerm) → o ≡ Some x → IsTerm n x) → IfOk (known_term at o) (IsTerm n)
-if_term at n (Some x) h = h x refl
-if_term at n None h = tt
 
 abbrev IfTerm : ℕ → Option TypedTerm → Type 0
 IfTerm n None = Unit {0}

@@ -3,8 +3,7 @@ use Rattle.std.proofs.Common.{◌≡◌, ◌<◌, if◌then◌else◌, ℕ, zero
 use Rattle.std.specs.List.{list_any}
 use Rattle.std.proofs.lemmas.Bool.{or_left, or_right}
 use Rattle.std.proofs.lemmas.Option.{slice_get_within}
-use Rattle.sat_base.specs.declared.literal.Var.{Var}
-use Rattle.rebuild_spec.specs.Trees.{Place, Tree, leaf, cut, made_at, same_line}
+use Rattle.rebuild_spec.specs.Trees.{Tree, leaf, cut, made_at, same_line}
 use Rattle.rebuild_spec.specs.Lines.{with_line, walked, line_number_in}
 use Rattle.rebuild_spec.proofs.WalkLaws.{same_place-refl, found_there, number-append, get-append, get-front, IsListed, HasEarlierChildren, IsEach, IsOrdered}
 
@@ -102,6 +101,3 @@ module _ (Is : Tree → Type 0) where
       let grown = run_grows (visit t ∷ tasks) done in
       let before = ordered_front done grown.0 (subst (IsOrdered Is) (sym e ∙ grown.1) ordered) in
       ap (λ k. run k tasks) (sym (walked_there Is one t done is before there)) ∙ e
-
-pub run_cut : (done : List Tree) (tasks : List Task) (p : Place) (v : Var) (t u : Tree) → run done (visit (cut p v t u) ∷ tasks) ≡ run done (visit t ∷ visit u ∷ list (cut p v t u) ∷ tasks)
-run_cut done tasks p v t u = refl

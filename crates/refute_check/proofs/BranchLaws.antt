@@ -104,8 +104,5 @@ branches-append ts (l ∷ lines) (c ∷ bs) line b h n r = (h.0, h.1, branches-a
 pub branches-grow : (ts us : List Lambda) (lines : List Line) (bs : List LineBranch) → Grow ts us → AreBranches ts lines bs → AreBranches us lines bs
 branches-grow ts us lines bs g h = subst (λ vs. AreBranches vs lines bs) (sym g.1) (branches-grown ts g.0 lines bs h)
 
-pub numbered-grow : (ts us : List Lambda) (ls : List Literal) → Grow ts us → AreNumberedBranch ts ls → AreNumberedBranch us ls
-numbered-grow ts us ls g h = subst (λ vs. AreNumberedBranch vs ls) (sym g.1) (numbered-grown ts g.0 ls h)
-
 pub represents-grow : (ts us : List Lambda) (ls : List Literal) (b : Branch) → Grow ts us → AreNumberedBranch ts ls → Represents ts ls b → Represents us ls b
 represents-grow ts us ls b g n h = subst (λ vs. Represents vs ls b) (sym g.1) (represents-grown ts g.0 ls (branch_has b) n h)

@@ -1,12 +1,9 @@
 -- The check of a whole text.
-use Rattle.std.proofs.Common.{◌≡◌, ◌≤◌, ◌+◌, ℕ, List, [], ◌∷◌, Option, length, Result, Ok, Err, OnOk, IfErr, ap, subst, length-append, arith}
+use Rattle.std.proofs.Common.{◌≡◌, ℕ, List, Option, Result, Ok, Err, OnOk, IfErr, subst}
 use Rattle.stt_core.specs.Typing.{Scope}
-use Rattle.tableau_calculus.specs.Literals.{Literal}
 use Rattle.tableau_calculus.specs.Witnesses.{Row, with_rows}
 use Rattle.tableau_calculus.specs.Internal.Answers.{LineAnswer}
-use Rattle.tableau_calculus.specs.Accepted.{FirstFailure, at_row, at_line, at_last, no_line}
 use Rattle.tableau_calculus.specs.declared.refutation.Line.{Line}
-use Rattle.tableau_calculus.specs.declared.refutation.Refutation.{Refutation}
 use Rattle.tableau_calculus.specs.declared.refutation.Why.{Why}
 use Rattle.tableau_calculus.specs.declared.refused.PlainRefused.{PlainRefused}
 use Rattle.tableau_calculus.specs.declared.refused.PlainRefused.TheVariants.{Refused, Memory}
@@ -21,13 +18,6 @@ answer_over s good scope declared rows are earlier line why h =
     subst (λ x. LineAnswer (with_rows x rows) rows earlier line why) declared
     (subst (λ rs. LineAnswer (with_rows (declared_in s) rs) rs earlier line why) are
     (subst (λ x. LineAnswer x (the_rows s) earlier line why) (scope_rows s good) h))
-
--- the place of a failure is none behind the last line
-pub failure_below : (scope : Scope) (start : List Literal) (r : Refutation) (place : ℕ) (why : Why) → FirstFailure scope start r place why → place ≤ length r.witnesses + length r.lines
-failure_below scope start r _ _ (at_row front back q why is table fails) = omega (arith, ap length is, length-append front (q ∷ back))
-failure_below scope start r _ _ (at_line front back line why table is right fails) = omega (arith, ap length is, length-append front (line ∷ back))
-failure_below scope start r _ _ (at_last front line table is right outside) = omega (arith, ap length is, length-append front (line ∷ []))
-failure_below scope start r _ _ (no_line table none) = omega arith
 
 -- what is said of a refusal's place and its word
 pub at_place : (e : PlainRefused) (P Q : ℕ → Why → Type 0) → ((place : ℕ) (why : Why) → P place why → Q place why) → IfRefused e P → IfRefused e Q

@@ -1,26 +1,14 @@
 -- The names of definitions, compared place by place.
-use Rattle.std.proofs.Common.{◌≡◌, ◌<◌, ◌≤◌, ◌⊎◌, inl, inr, ℕ, ◌+◌, zero, suc, List, [], ◌∷◌, ◌++◌, Some, map, length, take, slice_get, unwrap_or, option_map, refl, sym, ap, ap₂, subst, ◌∙◌, arith, take_all}
+use Rattle.std.proofs.Common.{◌≡◌, ◌<◌, ◌≤◌, ◌⊎◌, inl, inr, ℕ, ◌+◌, zero, suc, List, [], ◌∷◌, ◌++◌, Some, length, take, slice_get, refl, sym, ap, ap₂, subst, ◌∙◌, arith, take_all}
 use Rattle.std.specs.List.{AllByRecursion}
 use Rattle.std.proofs.lemmas.Bool.{cases_lt}
-use Rattle.stt_core.specs.TypedName.{TypedName}
-use Rattle.stt_core.proofs.ListLaws.{take_got, mapped_get}
-use Rattle.refute_print.specs.Named.{name_numbered}
+use Rattle.stt_core.proofs.ListLaws.{take_got}
 use Rattle.refute_check.specs.Acceptance.{DifferFirst}
 
 pub declared_at : (limit : ℕ) (ks : List ℕ) (i k : ℕ) → AllByRecursion (λ j. j < limit) ks → slice_get ks i ≡ Some k → k < limit
 declared_at limit [] i k h e = cc
 declared_at limit (j ∷ ks) zero k h e = let same : j ≡ k = cc in subst (λ x. x < limit) same h.0
 declared_at limit (j ∷ ks) (suc i) k h e = declared_at limit ks i k h.1 e
-
-mapped_name : (consts : List TypedName) (k : ℕ) → slice_get (map (λ c. c.name) consts) k ≡ option_map (λ c. c.name) (slice_get consts k)
-mapped_name [] k = refl
-mapped_name (c ∷ consts) zero = refl
-mapped_name (c ∷ consts) (suc k) = mapped_name consts k
-
--- the name of the constant at a place of a list
-pub name_there : (consts : List TypedName) (ks : List ℕ) (i k : ℕ) (name : List ℕ) → slice_get ks i ≡ Some k → option_map (λ c. c.name) (slice_get consts k) ≡ Some name → slice_get (map (name_numbered (map (λ c. c.name) consts)) ks) i ≡ Some name
-name_there consts ks i k name at e =
-    mapped_get (name_numbered (map (λ c. c.name) consts)) ks i k at ∙ ap (λ o. Some (unwrap_or o [])) (mapped_name consts k ∙ e)
 
 pub nothing_there : {A : Type 0} (xs : List A) (i : ℕ) (x : A) → length xs ≤ i → slice_get xs i ≡ Some x → ⊥
 nothing_there [] i x h e = cc

@@ -3,22 +3,16 @@ use Rattle.std.proofs.Common.{◌∙◌, Some, sym, subst}
 use Rattle.sat_base.specs.declared.literal.SatLit.{SatLit}
 use Rattle.tableau_calculus.specs.Literals.{Literal, IsLiteral}
 use Rattle.refute_print.specs.Named.{Names}
-use Rattle.refute_print.specs.Trees.{LiteralTree}
 use Rattle.refute_check.specs.Numbered.{numbered_literal}
-use Rattle.refute_check.specs.Internal.Seen.{IsSeen, IsNoted}
+use Rattle.refute_check.specs.Internal.Seen.{IsSeen}
 use Rattle.refute_check.specs.Internal.Shared.{IsGoodShared, ExtendsShared, NumbersLiteral}
 use Rattle.refute_check.specs.declared.seen.Noted.{Noted}
 use Rattle.refute_check.specs.declared.seen.Seen.{Seen}
 use Rattle.refute_check.specs.declared.shared.Shared.{Shared}
-use Rattle.refute_check.proofs.SharedLaws.{each_contains, each_weaker, extends_scope, extends_number, extends_literal}
+use Rattle.refute_check.proofs.SharedLaws.{each_weaker, extends_scope, extends_number, extends_literal}
 
 abbrev pub IsRightNote : Names → Shared → Noted → Type 0
 IsRightNote names s n = NumbersLiteral s (numbered_literal names n.lit.now) (Some n.number)
-
-pub noted_number : (names : Names) (s : Shared) (seen : Seen) (l : LiteralTree) (n : SatLit) → IsSeen names s seen → IsNoted seen l n → NumbersLiteral s (numbered_literal names l) (Some n)
-noted_number names s seen l n h i =
-    let right : IsRightNote names s i.0 = each_contains (IsRightNote names s) seen.items.items i.0 h i.1 in
-    subst (λ k. NumbersLiteral s (numbered_literal names l) (Some k)) i.3 (subst (λ t. NumbersLiteral s (numbered_literal names t) (Some i.0.number)) i.2 right)
 
 -- the number of a literal stays
 number_stays : (old new : Shared) → IsGoodShared old → ExtendsShared old new → (l : Literal) (n : SatLit) → NumbersLiteral old l (Some n) → NumbersLiteral new l (Some n)

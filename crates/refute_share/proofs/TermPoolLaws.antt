@@ -6,9 +6,6 @@ use Rattle.term_bank.specs.Terms.{term_at}
 use Rattle.refute_share.specs.KnownTerms.{KnowsTerms}
 use Rattle.refute_share.specs.Internal.Room.{HasNoMore}
 
-pub none-more : {A : Type 0} (xs : List (Option A)) → HasNoMore xs xs
-none-more xs = λ i x h. h
-
 -- an empty place more
 pub none-last : {A : Type 0} (old xs : List (Option A)) → HasNoMore old xs → HasNoMore old (xs ++ None ∷ [])
 none-last old xs h = λ i x at. h i x (go xs i x at)

@@ -1,22 +1,13 @@
 -- The text of a term is that of its pieces.
-use Rattle.std.proofs.Common.{◌≡◌, ℕ, zero, suc, ◌-◌, ◌≢◌, List, [], ◌∷◌, ◌++◌, length, slice_get, Some, unwrap_or, codes, refl, sym, ap, subst, ◌∙◌, append_assoc, append-nil, arith}
-use Rattle.stt_core.specs.SimpleType.{SimpleType, base}
+use Rattle.std.proofs.Common.{◌≡◌, ℕ, zero, suc, ◌-◌, ◌≢◌, List, [], ◌∷◌, ◌++◌, length, slice_get, Some, codes, refl, sym, ap, subst, ◌∙◌, append_assoc, append-nil, arith}
+use Rattle.stt_core.specs.SimpleType.{SimpleType}
 use Rattle.stt_core.specs.Lambda.{Lambda, bound, constant, lam, app, lambdas, applied, IsLeaf}
 use Rattle.stt_core.specs.View.{the_head}
 use Rattle.stt_core.specs.declared.nf.Head.{Head}
 use Rattle.stt_core.specs.declared.nf.Head.TheVariants as head
-use Rattle.thf_names.specs.Names.{name_text}
 use Rattle.refute_print.specs.Text.{text_of_type, term_text, spine_text}
 use Rattle.refute_print.specs.Named.{Names, named_type, named_term, HasTypeNames, HasNames}
 use Rattle.refute_print.specs.Internal.Pieces.{lambda_piece, binders_text, argument_text, arguments_text, applied_text, BindersHaveNames, ArgumentsHaveNames}
-
--- the text of a declared base type is its name's
-pub base_text : (names : Names) (n : ℕ) (w : List ℕ) → n ≢ 0 → n ≢ 1 → slice_get names.bases (n - 2) ≡ Some w → name_text w ≡ text_of_type (named_type names (base n))
-base_text names zero w h k e = absurd (h refl)
-base_text names (suc zero) w h k e = absurd (k refl)
-base_text names (suc (suc m)) w h k e =
-    let at : m ≡ suc (suc m) - 2 = omega arith in
-    ap (λ o. name_text (unwrap_or o [])) (sym e ∙ ap (slice_get names.bases) (sym at))
 
 pub spine_text-applied : (names : Names) (t : Lambda) (us : List Lambda) → spine_text (named_term names (applied t us)) ≡ spine_text (named_term names t) ++ arguments_text names us
 spine_text-applied names t [] = sym (append-nil (spine_text (named_term names t)))
@@ -61,10 +52,6 @@ whole_text names bs h us t l e =
 pub applied_text-some : (names : Names) (h : Lambda) (us : List Lambda) → length us ≢ 0 → codes "(" ++ (term_text (named_term names h) ++ (arguments_text names us ++ codes ")")) ≡ applied_text names h us
 applied_text-some names h [] n = absurd (n refl)
 applied_text-some names h (u ∷ us) n = refl
-
-pub applied_text-none : (names : Names) (h : Lambda) (us : List Lambda) → length us ≡ 0 → term_text (named_term names h) ≡ applied_text names h us
-applied_text-none names h [] n = refl
-applied_text-none names h (u ∷ us) n = absurd (omega arith)
 
 -- what has names under binders, and of a head with arguments
 pub binders_named : (names : Names) (bs : List SimpleType) (t : Lambda) → HasNames names (lambdas bs t) → BindersHaveNames names bs × HasNames names t

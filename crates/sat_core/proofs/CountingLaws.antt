@@ -1,8 +1,8 @@
 -- How many literals of a part of the trail are marked.
-use Rattle.std.proofs.Common.{◌≡◌, inl, inr, ◌<◌, ◌≤◌, ◌+◌, ◌-◌, ℕ, zero, suc, ◌&&◌, ◌||◌, not, Bool, true, false, List, [], ◌∷◌, Some, length, drop, refl, sym, ap, ◌∙◌, arith, length-drop}
+use Rattle.std.proofs.Common.{◌≡◌, ◌<◌, ◌≤◌, ◌+◌, ◌-◌, ℕ, zero, suc, ◌&&◌, ◌||◌, not, Bool, true, false, List, [], ◌∷◌, Some, length, drop, refl, sym, ap, ◌∙◌, arith, length-drop}
 use Rattle.std.proofs.lemmas.List.{length-map}
 use Rattle.std.specs.List.{slice_get}
-use Rattle.std.proofs.lemmas.Bool.{false≢true, cases_Bool, or_left, or_right, false_from_ne_true}
+use Rattle.std.proofs.lemmas.Bool.{false≢true, or_left, or_right, false_from_ne_true}
 use Rattle.std.proofs.lemmas.Option.{same_Some}
 use Rattle.sat_base.specs.declared.literal.Var.{Var}
 use Rattle.sat_base.specs.declared.literal.SatLit.{SatLit}
@@ -57,14 +57,6 @@ counted_early trail before after var i start step right at same_var_is early mor
     (false_from_ne_true (same_var l.var var) (λ t. false≢true (sym gone ∙ ap (mentions_variable (drop start (literals trail.steps))) (same_var_is ∙ sym (same_var-true l.var var t)) ∙ mentions-held (drop start (literals trail.steps)) l h)))
     ∙ or_false (is_marked before l.var)) in
     omega arith
-
--- a mark that is there
-pub marked_already : (marks : List Bool) (var : Var) → is_marked marks var ≡ true → MarksOneMore marks marks var
-marked_already marks var marked v =
-    elim (cases_Bool (same_var v var)) [
-      | inl same ↦ ap (is_marked marks) (same_var-true v var same) ∙ marked ∙ sym (or_right (is_marked marks v) _ same)
-      | inr apart ↦ sym (ap (λ (b : Bool). is_marked marks v || b) apart ∙ or_false (is_marked marks v))
-    ]
 
 pub how_many-le : (p : SatLit → Bool) (some : List SatLit) → how_many p some ≤ length some
 how_many-le p [] = omega arith

@@ -203,10 +203,6 @@ learned_count variables clauses learned among known =
 
 -- 4. The learned clauses among the results
 
-pub learned_short : (is_refuted : Bool) (some : List (List SatLit)) → length (learned_from is_refuted some) ≤ length some
-learned_short true some = omega (arith, length-take-le (length some - 1) some (omega arith))
-learned_short false some = omega arith
-
 pub learned_open : (is_refuted : Bool) (some : List (List SatLit)) → is_refuted ≡ false → learned_from is_refuted some ≡ some
 learned_open true some e = absurd (false≢true (sym e))
 learned_open false some e = refl

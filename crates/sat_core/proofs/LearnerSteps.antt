@@ -201,8 +201,3 @@ premise_over n clauses log is_refuted premise clause still_open over learned is 
     All-from_held (λ (l : SatLit). l.var.0 < n) clause (λ l h.
     let found = premise_occurring clauses (results log) premise clause l known is h in
     All-held (λ (m : SatLit). m.var.0 < n) found.1 l (over found.0 found.1 (slice_get-get_or clauses found.0 found.1 found.2 ∙ ap Some found.3)) found.4)
-
--- the same clauses over as many variables
-pub over_same : (n m : ℕ) (clauses others : List (List SatLit)) → m ≡ n → others ≡ clauses → AreOver n clauses → AreOver m others
-over_same n m clauses others made same over = λ k clause at.
-    subst (λ (bound : ℕ). IsOver bound clause) (sym made) (over k clause (ap (λ (list : List (List SatLit)). slice_get list k) (sym same) ∙ at))

@@ -13,7 +13,7 @@ use Rattle.sat_log.specs.declared.chain.Chain.{Chain}
 use Rattle.sat_log.specs.declared.log.LogEntry.{LogEntry}
 use Rattle.sat_log.specs.declared.chain.Premise.TheVariants.{Clause, Result}
 use Rattle.std.specs.Prelude.{IsSome, Option}
-use Rattle.sat_core.specs.Internal.Learned.{AreNamedPremises, Learns}
+use Rattle.sat_core.specs.Internal.Learned.{AreNamedPremises}
 use Rattle.sat_propagate.specs.Internal.Trail.{TrailState}
 use Rattle.sat_propagate.specs.Internal.WatchLists.{WatchTable}
 use Rattle.sat_propagate.specs.Internal.Propagator.{IsPropagator, texts}
@@ -151,13 +151,6 @@ ready_appended store before after propagator names marks chain ready appends =
   where
     results_are : results after ≡ results before ++ appends.outcome ∷ []
     results_are = ap results appends.appended ∙ map-append (λ (entry : LogEntry). entry.result) before (record { chain = chain; result = appends.outcome } ∷ [])
-
-pub chain_derives : (store results : List (List SatLit)) (propagator : Propagator) (names : List Premise) (marks : List Bool) (chain : Chain) → IsNamedPropagator store results propagator names marks
-    → Learns propagator.clauses.items propagator.trail names chain → IsSome (chain_result store results chain)
-chain_derives store results propagator names marks chain ready learns = subst (λ (o : Option (List SatLit)). IsSome o) (sym (learns.derived store results ready.named)) (some_is learns.outcome)
-  where
-    some_is : (outcome : List SatLit) → IsSome (Some outcome)
-    some_is outcome = refl
 
 pub appended_results : (store : List (List SatLit)) (before after : List LogEntry) (chain : Chain) (outcome : List SatLit) → chain_result store (results before) chain ≡ Some outcome → AppendsChain store before after chain
     → results after ≡ results before ++ outcome ∷ []

@@ -9,7 +9,7 @@ use Rattle.sat_base.specs.Truth.{Unsat, Implies}
 use Rattle.sat_base.proofs.TruthLaws.{unsat_from_empty}
 use Rattle.sat_log.specs.declared.log.LogEntry.{LogEntry}
 use Rattle.sat_log.specs.Chains.{results}
-use Rattle.sat_log.specs.Propagation.{IsNew, ReachesFalse}
+use Rattle.sat_log.specs.Propagation.{IsNew}
 use Rattle.sat_log.proofs.Implied.{results_implied}
 use Rattle.sat_core.specs.declared.learner.Learner.{Learner}
 use Rattle.sat_core.specs.Solver.{SolverState, learned_from, learned, SolverGrows, IsSound}
@@ -35,9 +35,6 @@ unsat_of s l e =
     let r = l.refuted e in
     let there : Contains (results s.log) [] = subst (λ (list : List (List SatLit)). Contains list []) (sym r.ends) (Contains-push (learned_from true (results s.log)) []) in
     unsat_from_empty s.clauses (All-contains (Implies s.clauses) (results s.log) [] (implied_of s l) there)
-
-pub reached_of : (s : Learner) → IsLearner s → s.is_refuted ≡ true → ReachesFalse (s.clauses ++ learned (seen s)) []
-reached_of s l e = subst (λ (b : Bool). ReachesFalse (s.clauses ++ learned_from b (results s.log)) []) (sym e) (l.refuted e).propagated
 
 pub grows_of : (before after : Learner) → before.is_refuted ≡ false → IsLearner after → GrewLearner before after → SolverGrows (seen before) (seen after)
 grows_of before after still_open l grew = record {

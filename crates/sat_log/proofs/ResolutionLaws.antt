@@ -1,6 +1,5 @@
 -- Facts about lists without some literal or without repeats, and about resolvents.
-use Rattle.std.proofs.Common.{◌≡◌, ◌<◌, ◌+◌, ℕ, take, get_or, length, IsSome, ◌||◌, ◌&&◌, not, Bool, true, false, List, [], ◌∷◌, ◌++◌, Some, None, refl, sym, ap, ap₂, ◌∙◌, subst, inl, inr, append_assoc, append-nil}
-use Rattle.std.specs.List.{list_any}
+use Rattle.std.proofs.Common.{◌≡◌, ◌<◌, ◌+◌, ℕ, take, get_or, length, ◌&&◌, not, Bool, true, false, List, [], ◌∷◌, ◌++◌, refl, sym, ap, ◌∙◌, subst, inl, inr, append_assoc, append-nil}
 use Rattle.std.proofs.lemmas.Bool.{false≢true, or_parts, or_cases, and_right}
 use Rattle.std.proofs.lemmas.List.{take_more}
 use Rattle.std.proofs.lemmas.List.Elements.{filter-append}
@@ -190,19 +189,3 @@ others_more_left l literals i d h e =
     ∙ without-append l (take i literals) (get_or literals i d ∷ [])
     ∙ ap (λ (r : List SatLit). without_literal l (take i literals) ++ r) (without-cons_same l (get_or literals i d) [] e)
     ∙ append-nil (without_literal l (take i literals))
-
--- `contains` of a slice asks with the arguments the other way round
-pub holds-flipped : (literals : List SatLit) (l : SatLit) → list_any (λ m. same_literal m l) literals ≡ holds literals l
-holds-flipped [] l = refl
-holds-flipped (m ∷ literals) l = ap₂ ◌||◌ (same_literal-comm m l) (holds-flipped literals l)
-
--- a step where the clause so far gives the negation
-pub resolved_other_way : (v : Var) (a b : List SatLit) → IsSome (resolved v a b) → (holds a (positive v) && holds b (negative v)) ≡ false
-    → resolved v a b ≡ Some (resolvent v b a)
-resolved_other_way v a b some otherwise = go (holds a (negative v) && holds b (positive v)) refl some
-  where
-    go : (t : Bool) → (holds a (negative v) && holds b (positive v)) ≡ t → IsSome (resolved v a b) → resolved v a b ≡ Some (resolvent v b a)
-    go true e s = simp (otherwise, e)
-    go false e s =
-        let none : resolved v a b ≡ None = simp (otherwise, e) in
-        absurd (false≢true (subst IsSome none s))

@@ -15,7 +15,7 @@ use Rattle.sat_laws.proofs.PackingLaws.{unpacked-packed}
 use Rattle.sat_laws.proofs.CompleteLaws.{satisfied_by}
 use Rattle.sat_propagate.specs.Internal.Trail.{TrailState, literals}
 use Rattle.sat_propagate.specs.Internal.WatchLists.{WatchTable, watchers, with_entries}
-use Rattle.sat_propagate.specs.Internal.Propagator.{IsPair, IsBeside, Watches, IsPropagator, AreEntriesDone, Enlists, Rewatched, Moves}
+use Rattle.sat_propagate.specs.Internal.Propagator.{IsPair, Watches, IsPropagator, AreEntriesDone, Enlists, Rewatched, Moves}
 use Rattle.sat_propagate.specs.Internal.Finding.{FindsOther, FindsUnit}
 use Rattle.sat_propagate.specs.declared.trail.Step.{Step}
 use Rattle.sat_propagate.specs.declared.watch_lists.Watch.{Watch}
@@ -129,16 +129,6 @@ next_assigned trail after clauses from l entries i entry watched step steps is t
         ∙ ap (λ (list : List SatLit). holds list l) (map-append (λ (s : Step). s.literal) trail.steps (step ∷ []))
         ∙ holds-append (literals trail.steps) (step.literal ∷ []) l
         ∙ or_right (holds (literals trail.steps) l) _ (or_left _ _ (ap (same_literal l) is ∙ same_literal-refl l))
-
--- the literal beside one that is watched is the other watched one
-pub pair_beside : (watched : Watched) (l other : SatLit) → IsBeside watched l other → Watches watched l → IsPair watched l other
-pair_beside watched l other (inl p) watches = inl p
-pair_beside watched l other (inr p) (inl first) = absurd (p.0 first)
-pair_beside watched l other (inr p) (inr second) = inr (second, p.1)
-
-pub watches_beside : (watched : Watched) (l other : SatLit) → IsBeside watched l other → Watches watched other
-watches_beside watched l other (inl p) = inr p.1
-watches_beside watched l other (inr p) = inl p.1
 
 -- the literal that is watched in place of another is fresh
 pub found_fresh : (trail : TrailState) (clauses after : List Watched) (n : ℕ) (from to other : SatLit) (found : FindsOther (literals trail.steps) (slice_get clauses n) from to)

@@ -2,7 +2,7 @@
 use Rattle.std.proofs.Common.{◌≡◌, ◌≢◌, ◌⊎◌, inl, inr, ◌<◌, ◌≤◌, ◌+◌, ◌-◌, ◌*◌, ℕ, zero, suc, true, false, List, [], ◌∷◌, ◌++◌, Option, Some, None, length, take, get_or, refl, sym, ap, ◌∙◌, subst, arith, length-append}
 use Rattle.std.specs.List.{Contains, slice_get}
 use Rattle.std.proofs.lemmas.Bool.{false≢true, or_left, or_right, cases_Bool, cases_order, false_from_ne_true}
-use Rattle.std.proofs.lemmas.List.{take-take, take_all, length-map, get_or-take, length-take-le, map-append}
+use Rattle.std.proofs.lemmas.List.{take-take, take_all, length-map, get_or-take, length-take-le}
 use Rattle.std.proofs.lemmas.List.Elements.{All-weaker}
 use Rattle.std.proofs.lemmas.Option.{slice_get_cases, same_Some, slice_get_within, get_or_from_slice_get}
 use Rattle.sat_base.specs.declared.literal.Var.{Var}
@@ -18,7 +18,7 @@ use Rattle.sat_laws.proofs.AnalysisLaws.{place_below, held_below}
 use Rattle.sat_propagate.specs.Internal.Trail.{TrailState, literals, IsTrail}
 use Rattle.sat_laws.specs.Internal.Packing.{packed}
 use Rattle.sat_propagate.specs.Internal.WatchLists.{WatchTable, NamesWatches, watchers}
-use Rattle.sat_propagate.specs.Internal.Propagator.{IsPropagator, IsCovered, Watches, Enlists, texts}
+use Rattle.sat_propagate.specs.Internal.Propagator.{IsPropagator, IsCovered, Watches, Enlists}
 use Rattle.sat_propagate.specs.Internal.Insertion.{IsSooner, IsRank, IsBest, IsUnseen}
 use Rattle.sat_propagate.specs.declared.trail.Step.{Step}
 use Rattle.sat_propagate.specs.declared.watch_lists.Watch.{Watch}
@@ -168,10 +168,6 @@ best_none trail among other i past so_far l h = elim (some_cases other l) [
   | inr apart ↦ absurd (so_far.none refl l (all_taken among i l past h) apart)
 ]
 
--- where no literal of a clause is another than one, all are that one
-pub alone_by : (clause : List SatLit) (first : SatLit) → ((l : SatLit) → holds clause l ≡ true → Some first ≡ Some l) → (l : SatLit) → holds clause l ≡ true → l ≡ first
-alone_by clause first same l h = sym (same_Some first l (same l h))
-
 -- 3. Going back as far as a clause needs
 
 pub unseen_open : (starts : List ℕ) (trail : List SatLit) (processed : ℕ) (second l : SatLit) → holds trail (negated second) ≡ false → IsSooner trail second l → IsUnseen starts trail processed l
@@ -232,9 +228,6 @@ starts_before trail level start place whole some at early s there =
         | inr more ↦ absurd (omega arith)
       ]
     ]
-
-pub no_start_before : (starts : List ℕ) (place s : ℕ) → Contains (take 0 starts) s → s ≤ place
-no_start_before starts place s there = let within = there.1 in absurd (omega arith)
 
 pub later_start : (starts : List ℕ) (level start place : ℕ) → 0 < level → slice_get starts (level - 1) ≡ Some start → place < start → place < get_or starts (level - 1) 0
 later_start starts level start place some at less =
@@ -398,9 +391,6 @@ pub literal_made : (trail after : TrailState) (processed : ℕ) (clauses : List 
 literal_made trail after processed clauses lists clause l over made right member =
     let below : l.var.0 < length trail.phases = All-held (λ (m : SatLit). m.var.0 < length trail.phases) clause l over member in
     omega (arith, right.lists_made)
-
-pub texts_pushed : (clauses after : List Watched) (watched : Watched) → after ≡ clauses ++ watched ∷ [] → texts after ≡ texts clauses ++ watched.clause ∷ []
-texts_pushed clauses after watched is = ap texts is ∙ map-append (λ (w : Watched). w.clause) clauses (watched ∷ [])
 
 -- 5. A clause with one literal, where there is no decision
 

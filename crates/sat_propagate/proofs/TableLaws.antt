@@ -25,9 +25,6 @@ use Rattle.sat_laws.proofs.AnalysisLaws.{place_below}
 use Rattle.sat_laws.proofs.WatchLaws.{held-take}
 use Rattle.sat_propagate.proofs.PropagatorLaws.{step_cases, literals-push, trail_short, if_true, if_false}
 
-phases_of : List Cell → List Bool
-phases_of cells = map (λ (cell : Cell). cell.positive) cells
-
 var_apart : (v w : Var) → same_var v w ≡ false → v ≢ w
 var_apart v w e same = false≢true (sym e ∙ subst (λ (x : Var). same_var v x ≡ true) same (same_var-refl v))
 
@@ -68,9 +65,6 @@ cell_written cells v cell h = get_or-set_same cells v.0 cell open_cell h
 cell_other : (cells : List Cell) (v w : Var) (cell : Cell) → same_var w v ≡ false → cell_of (set cells v.0 cell) w ≡ cell_of cells w
 cell_other cells v w cell apart =
     get_or-set_other cells v.0 w.0 cell open_cell (λ e. var_apart w v apart (ap (λ (n : ℕ). record { 0 = n }) e))
-
-is_true_of : Cell → Bool → Bool
-is_true_of cell sign = cell.assigned && beq cell.positive sign
 
 unheld_by_var : (some : List SatLit) (m : SatLit) → mentions_variable some m.var ≡ false → holds some m ≡ false
 unheld_by_var some m absent = false_from_ne_true (holds some m) (λ t. false≢true (sym absent ∙ mentions-held some m t))

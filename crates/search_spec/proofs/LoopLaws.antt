@@ -1,5 +1,5 @@
 -- Queues of loops, and queues of commands that are named otherwise.
-use Rattle.std.specs.Prelude.{◌≡◌, ◌<◌, ◌≤◌, ◌+◌, ◌==◌, ℕ, suc, Bool, true, false, not, ◌||◌, ◌&&◌, nat_lt, ◌⊎◌, length, List, [], ◌∷◌, ◌++◌, map, Some, option_map, refl, if◌then◌else◌}
+use Rattle.std.specs.Prelude.{◌≡◌, ◌<◌, ◌≤◌, ◌+◌, ◌==◌, ℕ, suc, Bool, true, false, not, ◌||◌, ◌&&◌, nat_lt, ◌⊎◌, length, List, [], ◌∷◌, ◌++◌, map, Some, refl, if◌then◌else◌}
 use Rattle.std.proofs.Common.{sym, ap, ◌∙◌, inl, inr, arith}
 use Rattle.std.proofs.lemmas.Bool.{ne_eqb, eq-eqb, ltb-false, le-ltb}
 use Rattle.std.proofs.lemmas.List.Elements.{filter-append}
@@ -112,20 +112,3 @@ without_from_loops {C} n (l ∷ loops) h =
   where
     one : List (Loop C)
     one = if l.number == n then loop_left l.due l.number l.later else l ∷ []
-
--- a waiting command by another name
-abbrev pub renamed : {C D : Type 0} → (C → D) → Entry C → Entry D
-renamed d q = record { due = q.due; number = q.number; command = d q.command }
-
-first_of-renamed : {C D : Type 0} (d : C → D) (q : Entry C) (qs : List (Entry C)) → first_waiting (renamed d q) (map (renamed d) qs) ≡ renamed d (first_waiting q qs)
-first_of-renamed d q [] = refl
-first_of-renamed d q (p ∷ ps) = ap (λ r. first_waiting r (map (renamed d) ps)) (sym (renamed_choice (comes_before p q))) ∙ first_of-renamed d (if comes_before p q then p else q) ps
-  where
-    renamed_choice : (b : Bool) → renamed d (if b then p else q) ≡ (if b then renamed d p else renamed d q)
-    renamed_choice true = refl
-    renamed_choice false = refl
-
--- The next command of a renamed queue is the next one, renamed.
-pub next_command-renamed : {C D : Type 0} (d : C → D) (queue : List (Entry C)) → next_command (map (renamed d) queue) ≡ option_map (renamed d) (next_command queue)
-next_command-renamed d [] = refl
-next_command-renamed d (q ∷ qs) = ap Some (first_of-renamed d q qs)

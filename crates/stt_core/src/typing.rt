@@ -70,6 +70,37 @@ fn predicate_type(alloc: Global, a: &Ty) -> Result<Ty, AllocError>
     Ty::function(alloc, a.try_clone(alloc)?, Ty::Base(0))
 }
 
+fn negation_type(alloc: Global) -> Result<Ty, AllocError>
+    ensures { IfOk result (λ ty. the_type ty ≡ arrow formula formula) }
+{
+    Ty::function(alloc, Ty::Base(0), Ty::Base(0))
+}
+
+fn implication_type(alloc: Global) -> Result<Ty, AllocError>
+    ensures { IfOk result (λ ty. the_type ty ≡ arrow formula (arrow formula formula)) }
+{
+    Ty::function(alloc, Ty::Base(0), negation_type(alloc)?)
+}
+
+fn all_type(alloc: Global, a: &Ty) -> Result<Ty, AllocError>
+    ensures { IfOk result (λ ty. the_type ty ≡ arrow (predicate (the_type a.now)) formula) }
+{
+    Ty::function(alloc, predicate_type(alloc, a)?, Ty::Base(0))
+}
+
+fn equality_type(alloc: Global, a: &Ty) -> Result<Ty, AllocError>
+    ensures { IfOk result (λ ty. the_type ty ≡ arrow (the_type a.now) (predicate (the_type a.now))) }
+{
+    Ty::function(alloc, a.try_clone(alloc)?, predicate_type(alloc, a)?)
+}
+
+/// The type of choice and of description.
+fn choosing_type(alloc: Global, a: &Ty) -> Result<Ty, AllocError>
+    ensures { IfOk result (λ ty. the_type ty ≡ arrow (predicate (the_type a.now)) (the_type a.now)) }
+{
+    Ty::function(alloc, predicate_type(alloc, a)?, a.try_clone(alloc)?)
+}
+
 fn where_same(alloc: Global, a: &Ty, b: &Ty, c: &Ty) -> Result<Option<Ty>, AllocError>
     ensures { IfOk result (λ o. option_map the_type o ≡ applied_type (Some (arrow (the_type a.now) (the_type b.now)))
         (Some (the_type c.now))) }
@@ -152,28 +183,12 @@ pub fn head_type(
         Head::Name(k) => try_clone_some(alloc, declared.sig.consts.type_of(*k as usize)),
         Head::Wit(k) => try_clone_some(alloc, declared.wits.get(*k as usize)),
         Head::False => Ok(Some(Ty::Base(0))),
-        Head::Not => Ok(Some(predicate_type(alloc, &Ty::Base(0))?)),
-        Head::Imp => Ok(Some(Ty::function(
-            alloc,
-            Ty::Base(0),
-            predicate_type(alloc, &Ty::Base(0))?,
-        )?)),
-        Head::All(a) => {
-            let ty = Ty::function(alloc, predicate_type(alloc, a)?, Ty::Base(0))?;
-            Ok(where_over(declared, a, ty))
-        }
-        Head::Eq(a) => {
-            let ty = Ty::function(alloc, a.try_clone(alloc)?, predicate_type(alloc, a)?)?;
-            Ok(where_over(declared, a, ty))
-        }
-        Head::Choice(a) => {
-            let ty = Ty::function(alloc, predicate_type(alloc, a)?, a.try_clone(alloc)?)?;
-            Ok(where_over(declared, a, ty))
-        }
-        Head::Desc(a) => {
-            let ty = Ty::function(alloc, predicate_type(alloc, a)?, a.try_clone(alloc)?)?;
-            Ok(where_over(declared, a, ty))
-        }
+        Head::Not => Ok(Some(negation_type(alloc)?)),
+        Head::Imp => Ok(Some(implication_type(alloc)?)),
+        Head::All(a) => Ok(where_over(declared, a, all_type(alloc, a)?)),
+        Head::Eq(a) => Ok(where_over(declared, a, equality_type(alloc, a)?)),
+        Head::Choice(a) => Ok(where_over(declared, a, choosing_type(alloc, a)?)),
+        Head::Desc(a) => Ok(where_over(declared, a, choosing_type(alloc, a)?)),
     }
 }
 

@@ -11,7 +11,7 @@ use Rattle.tableau_calculus.specs.Witnesses.{Row}
 use Rattle.tableau_calculus.specs.Rules.{IsDecomposed, differ_each, mat_rule, dec_rule, AreAt, IsInstance}
 use Rattle.stt_tableau.specs.Internal.Parts.{IsSpine}
 use Rattle.tableau_calculus.specs.Checks.{StandsAt, FindsInstance}
-use Rattle.stt_tableau.specs.Internal.Instances.{IsSpineAt, ArgumentsDiffer, SpinesDiffer}
+use Rattle.stt_tableau.specs.Internal.Instances.{IsSpineAt, SpinesDiffer}
 use Rattle.stt_tableau.specs.declared.decompose.Spine.{Spine}
 use Rattle.tableau_calculus.specs.declared.rule_use.RuleUse.TheVariants.{AtOne, AtTwo}
 use Rattle.tableau_calculus.specs.declared.rule_use.OnePlace.TheVariants.{Dec}
@@ -46,10 +46,6 @@ more_differ ty a b ss ts i s t lit one done more all is h g p q k e =
     ∙ ap (λ x. done ++ x ∷ differ_each b (drop (i + 1) ss) (drop (i + 1) ts)) (q ∙ ap (λ l. l ∷ []) p)
     ∙ ap₂ (λ x y. done ++ differ_each (arrow a b) x y) (sym (drop_got ss i s h)) (sym (drop_got ts i t g))
     ∙ ap (λ x. done ++ differ_each x (drop i ss) (drop i ts)) (sym is)
-
-pub spines : (scope : Scope) (p q : Spine) (o : Option (List (List Literal))) → ArgumentsDiffer scope (the_head p.head.now) p.args.now q.args.now o → the_head p.head.now ≡ the_head q.head.now → SpinesDiffer scope (Some p) (Some q) o
-spines scope p q (Some as') h e = (h.0, h.1, e, h.2)
-spines scope p q None h e = λ a k f. let n : None ≡ Some a = sym h ∙ k in cc
 
 same_constant : (c d : Constant) (h k : Lambda) → h ≡ constant c → k ≡ constant d → h ≡ k → c ≡ d
 same_constant c d h k p q e = let same : constant c ≡ constant d = sym p ∙ e ∙ q in cc

@@ -1,5 +1,5 @@
 -- The text of a model is written line by line.
-use Rattle.std.proofs.Common.{◌≡◌, ◌+◌, ◌-◌, ◌<◌, ◌≤◌, ℕ, zero, suc, List, [], ◌∷◌, ◌++◌, codes, decimal, length, map, take, slice_get, Option, Some, option_map, unwrap_or, refl, sym, ap, ap₂, ◌∙◌, append_assoc, arith}
+use Rattle.std.proofs.Common.{◌≡◌, ◌+◌, ◌-◌, ◌<◌, ◌≤◌, ℕ, zero, suc, List, [], ◌∷◌, ◌++◌, length, map, take, slice_get, Option, Some, option_map, unwrap_or, refl, sym, ap, ap₂, ◌∙◌, append_assoc, arith}
 use Rattle.std.proofs.lemmas.List.{length-map}
 use Rattle.std.proofs.lemmas.Option.{slice_get_within}
 use Rattle.thf_names.specs.Names.{name_text}
@@ -11,25 +11,6 @@ use Rattle.finite_models.proofs.LookLaws.{symbol_declared, symbol_behind}
 use Rattle.refute_print.specs.Named.{Names, names_of, name_numbered, named_constant}
 use Rattle.refute_print.specs.Text.{constant_text, as_bytes}
 use Rattle.szs_report.specs.ModelText.{value_line, value_lines}
-
--- three pieces one after the other
-pub three_put : (old a b c one two three : List ℕ) → one ≡ old ++ a → two ≡ one ++ b → three ≡ two ++ c → three ≡ old ++ (a ++ (b ++ c))
-three_put old a b c one two three e f g =
-    g ∙ ap (λ x. x ++ c) (f ∙ ap (λ x. x ++ b) e)
-    ∙ ap (λ x. x ++ c) (append_assoc old a b)
-    ∙ append_assoc old (a ++ b) c
-    ∙ ap (λ x. old ++ x) (append_assoc a b c)
-
-pub two_put : (old a b one two : List ℕ) → one ≡ old ++ a → two ≡ one ++ b → two ≡ old ++ (a ++ b)
-two_put old a b one two e f = f ∙ ap (λ x. x ++ b) e ∙ append_assoc old a b
-
-pub five_put : (old a b c d e one two three four five : List ℕ) → one ≡ old ++ a → two ≡ one ++ b → three ≡ two ++ c → four ≡ three ++ d → five ≡ four ++ e → five ≡ old ++ (a ++ (b ++ (c ++ (d ++ e))))
-five_put old a b c d e one two three four five p q r s t =
-    three_put old a b (c ++ (d ++ e)) one two five p q (three_put two c d e three four five r s t)
-
--- a symbol's line behind those before
-pub line_put : (names : Names) (x : Symbol) (v : ℕ) (old text one two : List ℕ) → one ≡ old ++ text → two ≡ one ++ (codes " " ++ (decimal v ++ codes "\n")) → as_bytes (value_line names x v ∷ []) ≡ text ++ (codes " " ++ (decimal v ++ codes "\n")) → two ≡ old ++ as_bytes (value_line names x v ∷ [])
-line_put names x v old text one two e f g = two_put old text (codes " " ++ (decimal v ++ codes "\n")) one two e f ∙ ap (λ t. old ++ t) (sym g)
 
 name_got : (cs : List TypedName) (i : ℕ) (n : List ℕ) → option_map (λ c. c.name) (slice_get cs i) ≡ Some n → slice_get (map (λ c. c.name) cs) i ≡ Some n
 name_got [] i n h = cc

@@ -84,17 +84,6 @@ module _ (scope : Scope) (start : List Literal) (refutation : Refutation) where
 pub ends_within : (start : List Literal) (lines : List Line) (count : ℕ) (line : Line) → count ≡ length lines → 0 < count → slice_get lines (count - 1) ≡ Some line → Within line.branch start → EndsWithin start lines
 ends_within start lines count line all some at within = record { front = take (count - 1) lines; last = line; are = last_split lines count line all some at; within = within }
 
--- a row's predicate is that of an earlier one
-pub twice_at : (rows : List Row) (count j : ℕ) (q r : Row) → count ≤ length rows → j < count → slice_get rows j ≡ Some q → q.predicate ≡ r.predicate → IsTwice (take count rows) r
-twice_at [] count j q r fits below at same = cc
-twice_at (p ∷ rows) zero j q r fits below at same = absurd (omega (arith, below))
-twice_at (p ∷ rows) (suc count) zero q r fits below at same =
-    let e : p ≡ q = cc in
-    (0, omega arith, ap (λ x. x.predicate) e ∙ same)
-twice_at (p ∷ rows) (suc count) (suc j) q r fits below at same =
-    let rest = twice_at rows count j q r (omega (arith, fits)) (omega (arith, below)) at same in
-    (suc rest.0, omega (arith, rest.1), rest.2)
-
 pub contains_map : {A B : Type 0} (f : A → B) (xs : List A) (y : B) → Contains (map f xs) y → (x : A) × Contains xs x × (f x ≡ y)
 contains_map f [] y h = absurd (omega (arith, h.1))
 contains_map f (x ∷ xs) y (zero, below, is) = (x, (0, omega arith, refl), is)

@@ -62,9 +62,6 @@ closed-within ls branch c w = record {
 abbrev pub Each : {A : Type 0} → (A → Type 0) → List A → Type 0
 Each {A} P xs = (x : A) → Contains xs x → P x
 
-pub each-none : {A : Type 0} (P : A → Type 0) (xs : List A) → Each P (take 0 xs)
-each-none P xs x h = absurd (omega (arith, h.1))
-
 -- one element more has it
 pub each-more : {A : Type 0} (P : A → Type 0) (xs : List A) (i : ℕ) (x : A) → slice_get xs i ≡ Some x → Each P (take i xs) → P x → Each P (take (i + 1) xs)
 each-more P xs i x e before here y h =
@@ -72,9 +69,6 @@ each-more P xs i x e before here y h =
 
 pub each-all : {A : Type 0} (P : A → Type 0) (xs : List A) (i : ℕ) → length xs ≤ i → Each P (take i xs) → Each P xs
 each-all P xs i l h = subst (Each P) (take_all i xs l) h
-
-pub contains-same : {A : Type 0} (xs : List A) (i : ℕ) (x y : A) → slice_get xs i ≡ Some x → x ≡ y → Contains xs y
-contains-same xs i x y e same = subst (Contains xs) same (contains-get xs i x e)
 
 -- an answer isn't true and false
 pub untrue : {b : Bool} → IsTrue b → b ≡ false → ⊥

@@ -1,5 +1,5 @@
 -- The start of a problem, literal after literal.
-use Rattle.std.proofs.Common.{◌≡◌, ℕ, zero, suc, ◌+◌, List, [], ◌∷◌, ◌++◌, map, take, slice_get, Some, None, sym, ap, subst, ◌∙◌}
+use Rattle.std.proofs.Common.{◌≡◌, ℕ, zero, suc, ◌+◌, List, [], ◌∷◌, ◌++◌, map, take, slice_get, Some, sym, ap, subst, ◌∙◌}
 use Rattle.stt_core.specs.Lambda.{Lambda}
 use Rattle.stt_core.specs.Typing.{Scope}
 use Rattle.stt_core.specs.Declarations.{scope_of}
@@ -25,13 +25,6 @@ added-more f ts i t before after g h k =
     k
     ∙ ap (λ ls. added formulas ls (f t ∷ [])) h
     ∙ sym (ap (added formulas []) (literals-more f ts i t g) ∙ added-append [] (map f (take i ts)) (f t ∷ []))
-
--- the start of a problem without a conjecture, and with one
-pub start-assumed : (p : PlainProblem) (ls : List Literal) → p.conjecture ≡ None → ls ≡ without_repeats (map (normal_literal (scope_of p.declared)) p.assumed) → ls ≡ start p
-start-assumed p ls c h =
-    let scope = scope_of p.declared in
-    let assumed = map (normal_literal scope) p.assumed in
-    h ∙ sym (ap (λ o. without_repeats (assumed ++ denied scope o)) c ∙ added-append [] assumed [])
 
 pub start-denied : (p : PlainProblem) (t : Lambda) (d : Literal) (ls after : List Literal) → p.conjecture ≡ Some t → d ≡ opposite (normal_literal (scope_of p.declared) t) → ls ≡ without_repeats (map (normal_literal (scope_of p.declared)) p.assumed) → after ≡ added formulas ls (d ∷ []) → after ≡ start p
 start-denied p t d ls after c e h k =

@@ -1,11 +1,10 @@
 -- Lists of lists that stand in one piece.
-use Rattle.std.proofs.Common.{◌≡◌, ◌<◌, ◌≤◌, ◌+◌, ℕ, suc, List, [], ◌∷◌, ◌++◌, Some, length, take, drop, get_or, refl, sym, ap, ap₂, ◌∙◌, arith, length-append, length-drop}
+use Rattle.std.proofs.Common.{◌≡◌, ◌≤◌, ◌+◌, ℕ, suc, List, [], ◌∷◌, ◌++◌, Some, length, take, drop, get_or, refl, sym, ap, ap₂, ◌∙◌, arith, length-drop}
 use Rattle.std.specs.List.{slice_get}
-use Rattle.std.specs.Option.{option_map}
-use Rattle.std.proofs.lemmas.List.{take-append-le, drop-append-le, take_all, map-append, get_or-drop, get_or-take, length-take-le}
+use Rattle.std.proofs.lemmas.List.{take-append-le, drop-append-le, take_all, map-append, get_or-drop, length-take-le}
 use Rattle.std.proofs.Math.Seq.{drop-append_seam, take-suc}
-use Rattle.std.proofs.lemmas.List.Elements.{All-weaker, All-head, All-tail, All-push}
-use Rattle.std.proofs.lemmas.Option.{slice_get-map, slice_get-get_or, slice_get_within, same_Some}
+use Rattle.std.proofs.lemmas.List.Elements.{All-head, All-tail}
+use Rattle.std.proofs.lemmas.Option.{slice_get-get_or, slice_get_within, same_Some}
 use Rattle.sat_base.specs.declared.literal.SatLit.{SatLit}
 use Rattle.literal_map.specs.declared.instance.Instance.{Instance}
 use Rattle.tableau_clauses.specs.declared.instances.PackedInstance.{PackedInstance}
@@ -40,13 +39,6 @@ all_spanned-push literals list spans span within start len =
     map-append (spanned (literals ++ list)) spans (span ∷ [])
     ∙ ap₂ (λ (all : List (List SatLit)) (l : List SatLit). all ++ l ∷ []) (all_spanned-append literals list spans within) (piece-last literals list span.start span.len start len)
 
-pub spans-append : (literals more : List SatLit) (spans : List Span) → AreSpans literals spans → AreSpans (literals ++ more) spans
-spans-append literals more spans within =
-    All-weaker (IsInside literals) (IsInside (literals ++ more)) (λ span h. omega (arith, h, length-append literals more)) spans within
-
-pub spans-push : (literals : List SatLit) (spans : List Span) (span : Span) → AreSpans literals spans → span.start + span.len ≤ length literals → AreSpans literals (spans ++ span ∷ [])
-spans-push literals spans span within inside = All-push (IsInside literals) spans span within inside
-
 abbrev HasLists : List (List SatLit) → PackedInstance → Type 0
 HasLists lists i = (i.start + i.len ≤ length lists) × (suc 0 ≤ i.len)
 
@@ -61,13 +53,6 @@ pub all_unpacked-push : (lists own : List (List SatLit)) (instances : List Packe
 all_unpacked-push lists own instances i have start len =
     map-append (unpacked_instance (lists ++ own)) instances (i ∷ [])
     ∙ ap₂ (λ (all : List Instance) (j : Instance). all ++ j ∷ []) (all_unpacked-append lists own instances have) (ap (with_alternatives i) (piece-last lists own i.start i.len start len))
-
-pub lists-append : (lists more : List (List SatLit)) (instances : List PackedInstance) → HaveLists lists instances → HaveLists (lists ++ more) instances
-lists-append lists more instances have =
-    All-weaker (HasLists lists) (HasLists (lists ++ more)) (λ i h. (omega (arith, h.0, length-append lists more), h.1)) instances have
-
-pub lists-push : (lists : List (List SatLit)) (instances : List PackedInstance) (i : PackedInstance) → HaveLists lists instances → i.start + i.len ≤ length lists → suc 0 ≤ i.len → HaveLists lists (instances ++ i ∷ [])
-lists-push lists instances i have inside some = All-push (HasLists lists) instances i have (inside, some)
 
 -- what a list has at a place
 got : {X : Type 0} → (xs : List X) (k : ℕ) (x d : X) → slice_get xs k ≡ Some x → get_or xs k d ≡ x
@@ -85,19 +70,3 @@ rest_next xs start i x some at =
   where
     long : length (piece_of xs start i) ≡ i
     long = length-take-le i (drop start xs) (omega (arith, length-drop start xs, slice_get_within xs (start + i) x at))
-
--- the first one of a piece
-first-of-piece : (lists : List (List SatLit)) (start len : ℕ) (own : List SatLit) → 0 < len → slice_get lists start ≡ Some own → get_or (piece_of lists start len) 0 [] ≡ own
-first-of-piece lists start len own some at =
-    get_or-take len (drop start lists) 0 [] some
-    ∙ get_or-drop start lists 0 []
-    ∙ ap (λ (n : ℕ). get_or lists n []) (omega arith)
-    ∙ got lists start own [] at
-
--- an instance with its lists
-pub unpacked-found : (lists : List (List SatLit)) (instances : List PackedInstance) (k : ℕ) (i : PackedInstance) (own : List SatLit) → slice_get instances k ≡ Some i → 0 < i.len → slice_get lists i.start ≡ Some own
-    → slice_get (all_unpacked lists instances) k ≡ Some (record { by = i.by; principals = own; alternatives = drop 1 (piece_of lists i.start i.len) })
-unpacked-found lists instances k i own at some found =
-    slice_get-map (unpacked_instance lists) instances k
-    ∙ ap (option_map (unpacked_instance lists)) at
-    ∙ ap (λ (list : List SatLit). Some (let j : Instance = record { by = i.by; principals = list; alternatives = drop 1 (piece_of lists i.start i.len) } in j)) (first-of-piece lists i.start i.len own some found)

@@ -1,5 +1,5 @@
 -- Clauses that are added to others.
-use Rattle.std.proofs.Common.{◌≡◌, ℕ, ◌-◌, List, [], ◌∷◌, ◌++◌, map, length, take, Some, Bool, true, false, is_some, if◌then◌else◌, refl, sym, ap, subst, ◌∙◌, append_assoc, true≢false, arith, replicate, length-append}
+use Rattle.std.proofs.Common.{◌≡◌, ℕ, ◌-◌, List, [], ◌∷◌, ◌++◌, map, length, Some, Bool, true, false, is_some, if◌then◌else◌, refl, sym, ap, subst, ◌∙◌, append_assoc, true≢false, arith, replicate, length-append}
 use Rattle.std.specs.Prelude.{cond, ◌||◌}
 use Rattle.std.specs.List.{list_any}
 use Rattle.std.specs.Map.{lookup}
@@ -68,15 +68,6 @@ then_added o old between new a b = record {
 
 pub step_later : (o : Origin) (old es after : List Step) (c : List SatLit) → Adds o old es → after ≡ with_steps o es (c ∷ []) → Adds o old after
 step_later o old es after c a e = then_added o old es after a (subst (Adds o es) (sym e) (step_added o es c))
-
-take-front : {X : Type 0} (xs ys : List X) → take (length xs) (xs ++ ys) ≡ xs
-take-front [] [] = refl
-take-front [] (y ∷ ys) = refl
-take-front (x ∷ xs) ys = ap (λ zs. x ∷ zs) (take-front xs ys)
-
--- what was there before stands at the front
-pub front_kept : (o : Origin) (old new : List Step) → Adds o old new → take (length old) new ≡ old
-front_kept o old new a = ap (take (length old)) a.steps ∙ take-front old (map (λ c. (c, o)) a.further)
 
 -- THE CLAUSES
 

@@ -108,9 +108,6 @@ later_before : (n k j : ℕ) (at : At) → k ≤ j → (at.result < n) ⊎ ((at.
 later_before n k j at l (inl h) = inl h
 later_before n k j at l (inr h) = inr (h.0, omega (arith, l, h.1))
 
-pub before_later : (drafts : List Draft) (n k j : ℕ) → k ≤ j → IsEarlierDraft drafts n k → IsEarlierDraft drafts n j
-before_later drafts n k j l before i d at h e = later_before n k j at l (before i d at h e)
-
 pub before_next : (drafts : List Draft) (n k : ℕ) → IsEarlierDraft drafts n k → IsEarlierDraft drafts (suc n) 0
 before_next drafts n k before i d at h e = inl (go (before i d at h e))
   where

@@ -4,8 +4,6 @@ use Rattle.std.specs.List.{All, list_any}
 use Rattle.std.proofs.lemmas.Bool.{false≢true, and_parts, and_from, or_cases, or_left, or_right, eqb-true, eq-eqb}
 use Rattle.std.proofs.lemmas.List.{get_or-set_same, get_or-set_other}
 use Rattle.std.proofs.lemmas.List.Elements.{All-nil, All-cons, All-contains}
-use Rattle.std.proofs.lemmas.List.Folds.{list_any-append}
-use Rattle.stt_core.proofs.ListLaws.{take_got}
 use Rattle.tableau_calculus.proofs.ListLaws.{contains-first, contains-later, contains_cases}
 use Rattle.sat_base.specs.declared.literal.SatLit.{SatLit}
 use Rattle.sat_log.specs.declared.chain.Premise.{Premise}
@@ -34,10 +32,6 @@ or_false : (b : Bool) → b ≡ (b || false)
 or_false true = refl
 or_false false = refl
 
-or_or : (a b c : Bool) → ((a || b) || c) ≡ (a || (b || c))
-or_or true b c = refl
-or_or false b c = refl
-
 -- a flag after one is set
 set_flag : (flags : List Bool) (n m : ℕ) → n < length flags → get_or (set flags n true) m false ≡ (get_or flags m false || nat_eq n m)
 set_flag flags n m l = go (nat_eq n m) refl
@@ -63,14 +57,6 @@ module _ (old new : Reached) where
 
 abbrev pub any_premise : List ChainStep → Place → Bool
 any_premise steps p = list_any (λ step. same_place (premise_place step.premise) p) steps
-
--- a step more of a chain is marked
-pub marked_more : (steps : List ChainStep) (k : ℕ) (step : ChainStep) (p : Place) (a b now new : Bool) → slice_get steps k ≡ Some step → now ≡ (a || (b || any_premise (take k steps) p)) → new ≡ (now || same_place (premise_place step.premise) p) → new ≡ (a || (b || any_premise (take (k + 1) steps) p))
-marked_more steps k step p a b now new at e f =
-    let T : ChainStep → Bool = λ (s : ChainStep). same_place (premise_place s.premise) p in
-    let more : any_premise (take (k + 1) steps) p ≡ (any_premise (take k steps) p || T step) =
-    ap (list_any T) (take_got steps k step at) ∙ list_any-append T (take k steps) (step ∷ []) ∙ ap (λ x. any_premise (take k steps) p || x) (sym (or_false (T step))) in
-    f ∙ ap (λ x. x || T step) e ∙ or_or a (b || any_premise (take k steps) p) (T step) ∙ ap (λ x. a || x) (or_or b (any_premise (take k steps) p) (T step) ∙ ap (λ x. b || x) (sym more))
 
 any_there : {A : Type 0} (f : A → Bool) (xs : List A) (x : A) → Contains xs x → f x ≡ true → list_any f xs ≡ true
 any_there f [] x h e = absurd (omega (arith, h.1))

@@ -1,5 +1,5 @@
 -- Drafts of choice and of description.
-use Rattle.std.proofs.Common.{◌≡◌, ◌<◌, ℕ, length, List, [], ◌∷◌, Some, None, sym, ap, ap₂, subst, ◌∙◌}
+use Rattle.std.proofs.Common.{◌≡◌, ◌<◌, ℕ, length, List, [], ◌∷◌, Some, sym, ap, ap₂, subst, ◌∙◌}
 use Rattle.stt_core.specs.SimpleType.{SimpleType}
 use Rattle.stt_core.specs.Lambda.{Constant, constant, app}
 use Rattle.normal_forms.specs.Normal.{eta, apply}
@@ -8,20 +8,14 @@ use Rattle.tableau_calculus.specs.Witnesses.{Row}
 use Rattle.tableau_calculus.specs.Rules.{IsInstance, chosen, nowhere, at_most_once, described}
 use Rattle.tableau_calculus.specs.declared.rule_use.OfPredicate.TheVariants.{Cho, Des}
 use Rattle.tableau_calculus.specs.declared.rule_use.RuleUse.TheVariants.{WithPredicate}
-use Rattle.tableau_calculus.proofs.InstanceLaws.{cho_is, des_is, fits}
+use Rattle.tableau_calculus.proofs.InstanceLaws.{cho_is, des_is}
 use Rattle.term_bank.specs.Content.{Content, content_scope, HasTerm, Grows}
 use Rattle.term_bank.specs.Terms.{term_at}
 use Rattle.term_bank.proofs.GrowLaws.{grown_scope, grown_at, has_at, has_within}
-use Rattle.tableau_rules.specs.Internal.Typed.{IsPredicate, IsPredicateType}
+use Rattle.tableau_rules.specs.Internal.Typed.{IsPredicate}
 use Rattle.tableau_rules.specs.Internal.Drafted.{alternatives_at, Drafted}
 use Rattle.tableau_rules.specs.declared.draft.Signed.{Signed}
 use Rattle.tableau_rules.proofs.DraftLaws.{yes, nay}
-
-pub cho_none : (b : Content) (rows : List Row) (f : ℕ) → IsPredicateType b f None → Drafted b rows [] (WithPredicate Cho (term_at b.terms f)) None
-cho_none b rows f none = λ as' h. let g = fits (content_scope b) rows (WithPredicate Cho (term_at b.terms f)) h.principals as' h.fits in none g.0 g.1
-
-pub des_none : (b : Content) (rows : List Row) (f : ℕ) → IsPredicateType b f None → Drafted b rows [] (WithPredicate Des (term_at b.terms f)) None
-des_none b rows f none = λ as' h. let g = fits (content_scope b) rows (WithPredicate Des (term_at b.terms f)) h.principals as' h.fits in none g.0 g.1
 
 -- what an operator gives for a predicate, over an earlier bank
 pub picked_back : (C : SimpleType → Constant) (b c e : Content) (a x : SimpleType) (f v : ℕ) → Grows b c → f < length b.terms → x ≡ a → HasTerm e v (apply (term_at c.terms f) (eta a (app (constant (C x)) (term_at c.terms f)))) → HasTerm e v (apply (term_at b.terms f) (eta a (app (constant (C a)) (term_at b.terms f))))

@@ -15,7 +15,7 @@ use Rattle.witness_names.proofs.StayLaws.{rows_same}
 use Rattle.term_bank.specs.Terms.{term_at}
 use Rattle.witness_names.specs.Rows.{binder_of, row_of, rows_of, AreRows}
 use Rattle.tableau_rules.specs.Internal.Declaring.{Declares, AreDeclaredIn}
-use Rattle.tableau_rules.proofs.WideLaws.{widens_itself, widens_on}
+use Rattle.tableau_rules.proofs.WideLaws.{widens_itself}
 
 typed_at : (scope : Scope) (earlier rows : List Row) (k : ℕ) (r : Row) → IsTableAfter scope earlier rows → slice_get rows k ≡ Some r → (es : List Row) × IsTypedRow scope es r
 typed_at scope earlier [] k r h e = cc
@@ -99,9 +99,6 @@ all_declared b ids rows l = go rows.further rows.types
 pub record DeclaresTo (old new : Content) (ids : List ℕ) (w : ℕ) : Type 0 where
   pub declares : Declares old new ids
   pub next : length new.witnesses ≡ w
-
-pub declares_on : (a b c : Content) (ids : List ℕ) → Declares a b ids → Declares b c ids → Declares a c ids
-declares_on a b c ids g h = record { widens = widens_on a b c g.widens h.widens; terms = h.terms ∙ g.terms; rows = h.rows }
 
 pub declared_grown_rows : (b c : Content) → Grows b c → (ids : List ℕ) → AreRows b ids → AreDeclaredIn b ids → AreDeclaredIn c ids
 declared_grown_rows b c g ids rows all = ap (map (λ (r : Row). r.type)) (rows_same b c g ids rows) ∙ all ∙ sym g.witnesses

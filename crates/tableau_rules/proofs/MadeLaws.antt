@@ -104,9 +104,6 @@ take_front : {A : Type 0} (xs ys : List A) → take (length xs) (xs ++ ys) ≡ x
 take_front [] ys = refl
 take_front (x ∷ xs) ys = ap (λ l. x ∷ l) (take_front xs ys)
 
-pub taken_back : (xs ys zs : List ℕ) (n : ℕ) → n ≡ length xs → Begins xs ys → zs ≡ take n ys → zs ≡ xs
-taken_back xs ys zs n e g h = h ∙ ap₂ take e g.is ∙ take_front xs g.further
-
 -- THE SAME INSTANCE OVER ANOTHER BANK AND MORE ATOMS
 
 module _ (b c : Content) (atoms more : List ℕ) (literals : (l : SatLit) → l.var.0 < length atoms → bank_literal c.terms more l ≡ bank_literal b.terms atoms l) (terms : (id : ℕ) → id < length b.terms → term_at c.terms id ≡ term_at b.terms id) where

@@ -70,20 +70,8 @@ module _ (c : Content) (atoms : List ℕ) where
 
 -- WHICH RULE MAKES A WITNESS
 
--- a rule other than that one makes none
-pub makes_none : (rule : OnePlace) → (rule ≡ AllNeg → ⊥) → makes_witness rule ≡ false
-makes_none AllNeg n = absurd (n refl)
-makes_none rule n = refl
-
 pub denies_none : (rule : OnePlace) (l : SatLit) → makes_witness rule ≡ false → denial_of (AtOne rule l) ≡ None
 denies_none rule l h = ap (λ b. if b then Some l else None) h
-
-pub makes_none_by : (rule : OnePlace) (l : SatLit) → denial_of (AtOne rule l) ≡ None → makes_witness rule ≡ false
-makes_none_by rule l h = go (makes_witness rule) h
-  where
-    go : (b : Bool) → (if b then Some l else None) ≡ None → b ≡ false
-    go true e = cc
-    go false e = refl
 
 -- a witness is made for a principal
 pub denial_within : (P : SatLit → Type 0) (by : UseByNumbers) → Each P (principals_of by) → ForSome (denial_of by) P

@@ -1,8 +1,7 @@
 -- The marks of a head with its arguments.
-use Rattle.std.proofs.Common.{◌≡◌, ℕ, suc, ◌+◌, ◌≤◌, max, List, [], ◌∷◌, map, take, take_all, length, slice_get, Some, refl, sym, ap, ap₂, subst, ◌∙◌}
-use Rattle.stt_core.specs.Lambda.{Lambda, bound, constant, lam, app, applied}
+use Rattle.std.proofs.Common.{◌≡◌, ℕ, suc, ◌+◌, max, List, [], ◌∷◌, map, take, slice_get, Some, sym, ap, ap₂, ◌∙◌}
+use Rattle.stt_core.specs.Lambda.{Lambda, app, applied}
 use Rattle.stt_core.specs.Internal.Missing.{missing_binders}
-use Rattle.stt_core.proofs.SpineLaws.{IsAtom}
 use Rattle.stt_core.proofs.ListLaws.{take_got, map-append}
 use Rattle.stt_core.proofs.CanonicalTypes.{applied-more}
 use Rattle.stt_core.specs.Depth.{depth}
@@ -10,12 +9,6 @@ use Rattle.term_bank.specs.Internal.Marks.{greater, greatest_witness}
 use Rattle.term_bank.specs.Terms.{term_at}
 use Rattle.term_bank.specs.Internal.MarksView.{AreMarksOf}
 use Rattle.term_bank.specs.declared.marks.Marks.{Marks}
-
-pub depth_atom : (h : Lambda) → IsAtom h → 0 ≡ depth h
-depth_atom (bound k) o = refl
-depth_atom (constant c) o = refl
-depth_atom (lam a s) o = absurd o
-depth_atom (app s u) o = absurd o
 
 -- one argument more
 pub spine_more : (ts : List Lambda) (h : Lambda) (args : List ℕ) (i id : ℕ) → slice_get args i ≡ Some id → applied h (map (term_at ts) (take (i + 1) args)) ≡ app (applied h (map (term_at ts) (take i args))) (term_at ts id)
@@ -31,6 +24,3 @@ marks_more ts h args i id before argument after g m d e w d' e' w' =
       missing_is = e' ∙ ap₂ max m.missing_is e ∙ sym (ap missing_binders whole);
       greatest_is = w' ∙ ap₂ greater m.greatest_is w ∙ sym (ap greatest_witness whole);
     }
-
-pub marks_whole : (ts : List Lambda) (h : Lambda) (args : List ℕ) (i : ℕ) (m : Marks) → length args ≤ i → AreMarksOf (applied h (map (term_at ts) (take i args))) m → AreMarksOf (applied h (map (term_at ts) args)) m
-marks_whole ts h args i m l h' = subst (λ us. AreMarksOf (applied h (map (term_at ts) us)) m) (take_all i args l) h'

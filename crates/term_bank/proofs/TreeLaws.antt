@@ -1,7 +1,7 @@
 -- Whole terms that are taken in.
 use Rattle.std.proofs.Common.{◌≡◌, ℕ, zero, suc, ◌+◌, ◌-◌, ◌<◌, ◌≤◌, List, [], ◌∷◌, ◌++◌, map, take, take_all, drop, length, slice_get, Some, refl, sym, ap, ap₂, subst, ◌∙◌, arith}
 use Rattle.std.specs.Prelude.{All}
-use Rattle.std.proofs.lemmas.List.Elements.{All-nil, All-push}
+use Rattle.std.proofs.lemmas.List.Elements.{All-push}
 use Rattle.stt_core.specs.SimpleType.{SimpleType}
 use Rattle.stt_core.specs.Lambda.{Lambda, lam, lambdas, applied}
 use Rattle.stt_core.specs.Typing.{Scope}
@@ -9,7 +9,7 @@ use Rattle.stt_core.proofs.SpineLaws.{IsAtom}
 use Rattle.stt_core.proofs.ListLaws.{take_got, drop_got, map-append}
 use Rattle.term_bank.specs.Terms.{term_at, IsTypedTerm}
 use Rattle.term_bank.specs.Content.{Content, content_scope, HasTerm, Grows}
-use Rattle.term_bank.proofs.GrowLaws.{grows_itself, grows_on, grown_scope, grown_all, grown_terms, has_within, has_at}
+use Rattle.term_bank.proofs.GrowLaws.{grows_on, grown_scope, grown_all, grown_terms, has_within, has_at}
 use Rattle.term_bank.proofs.TypeLaws.{body_of, argument_typed}
 
 -- the bank has grown, and these places have these terms
@@ -21,9 +21,6 @@ pub record AreImported (old new : Content) (terms : List Lambda) (ids : List ℕ
 pub record IsImported (old new : Content) (id : ℕ) (t : Lambda) : Type 0 where
   pub grows : Grows old new
   pub has : HasTerm new id t
-
-pub none_imported : (b : Content) → AreImported b b [] []
-none_imported b = record { grows = grows_itself b; within = All-nil (λ i. i < length b.terms); are = refl }
 
 -- one more
 pub one_imported : (old b c : Content) (us : List Lambda) (i : ℕ) (u : Lambda) (ids all : List ℕ) (id : ℕ) → AreImported old b (take i us) ids → slice_get us i ≡ Some u → Grows b c → HasTerm c id u → all ≡ ids ++ id ∷ [] → AreImported old c (take (i + 1) us) all
@@ -72,9 +69,6 @@ pub spine_ready : (old new : Content) (bs : List SimpleType) (h : Lambda) (us : 
 spine_ready old new bs h us whole ids slice i g e t r same l =
     subst (λ vs. IsTypedTerm (content_scope new) (applied h vs)) (sym (ap (map (term_at new.terms)) same ∙ r.are ∙ take_all i us l)) (inside_typed old new bs (applied h us) whole g e t)
 
-pub spine_is : (new : Content) (old : Content) (h : Lambda) (us : List Lambda) (ids slice : List ℕ) (i : ℕ) → AreImported old new (take i us) ids → slice ≡ ids → length us ≤ i → applied h (map (term_at new.terms) slice) ≡ applied h us
-spine_is new old h us ids slice i r same l = ap (applied h) (ap (map (term_at new.terms)) same ∙ r.are ∙ take_all i us l)
-
 -- the binder that comes next, from the inside
 next_binder : (bs : List SimpleType) (count k : ℕ) (b : SimpleType) (t : Lambda) → k < count → slice_get bs (count - 1 - k) ≡ Some b → lam b (lambdas (drop (count - k) bs) t) ≡ lambdas (drop (count - (k + 1)) bs) t
 next_binder bs count k b t l g =
@@ -94,11 +88,6 @@ binder_imported old b c bs count k a t id next h l at g has = record {
   grows = grows_on old b c h.grows g;
   has = subst (HasTerm c next) (ap (lam a) (has_at b id (lambdas (drop (count - k) bs) t) h.has) ∙ next_binder bs count k a t l at) has;
 }
-
-pub all_bound : (old new : Content) (bs : List SimpleType) (count k : ℕ) (t whole : Lambda) (id : ℕ) → IsImported old new id (lambdas (drop (count - k) bs) t) → count ≤ k → lambdas bs t ≡ whole → HasTerm new id whole
-all_bound old new bs count k t whole id h l e =
-    let z : count - k ≡ 0 = omega arith in
-    subst (HasTerm new id) (ap (λ n. lambdas (drop n bs) t) z ∙ e) h.has
 
 pub none_bound : (old new : Content) (bs : List SimpleType) (count : ℕ) (t : Lambda) (id : ℕ) → Grows old new → count ≡ length bs → HasTerm new id t → IsImported old new id (lambdas (drop (count - 0) bs) t)
 none_bound old new bs count t id g e has = let z : count - 0 ≡ length bs = omega (arith, e) in record {

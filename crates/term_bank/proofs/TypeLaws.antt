@@ -27,9 +27,6 @@ body_of scope ctx a (base n) s h = absurd h.1
 body_of scope ctx a (arrow c b) s h =
     record { declared = h.0; result = b; type_is = ap (λ x. arrow x b) h.1.0; canonical = h.1.1 }
 
-pub function_of : (scope : Scope) (ctx : List SimpleType) (a b : SimpleType) (s : Lambda) → IsTrue (is_declared scope.bases a) → IsCanonical scope (a ∷ ctx) b s → IsCanonical scope ctx (arrow a b) (lam a s)
-function_of scope ctx a b s d h = (d, (refl, h))
-
 pub body_typed : (scope : Scope) (ctx : List SimpleType) (a : SimpleType) (s : Lambda) → HasTypeIn scope ctx (lam a s) → HasTypeIn scope (a ∷ ctx) s
 body_typed scope ctx a s h = let b = body_of scope ctx a h.type s h.canonical in record { type = b.result; canonical = b.canonical }
 

@@ -34,9 +34,6 @@ stays a b ctx ty id g o = record {
 pub names_stay : (a b : Content) → Grows a b → NamesIndividuals a → NamesIndividuals b
 names_stay a b g h = ap (λ cs. map (λ c. c.type) cs) g.consts ∙ h
 
-pub witnesses_stay : (a b : Content) → Grows a b → HasNoWitness a → HasNoWitness b
-witnesses_stay a b g h = g.witnesses ∙ h
-
 pub constant-canonical : (b : Content) → NamesIndividuals b → IsCanonical (content_scope b) [] (base 1) (constant (name 0))
 constant-canonical b h = (tt, ap (λ ns. slice_get ns 0) h)
 

@@ -1,5 +1,5 @@
 use Rattle.std.proofs.Common.{◌≡◌, ◌≤◌, ◌++◌, ◌-◌, List, ℕ, Some, length, IsTrue}
-use Rattle.outside.proofs.reading.read_whole.Given as goal
+use Rattle.outside.proofs.reading.read_rest.Given as goal
 
 abbrev pub invariant-loop-count : goal.invariant-loop-count
 invariant-loop-count g l =
