@@ -15,7 +15,7 @@ use Rattle.rebuild_spec.proofs.LiteralLaws.{held_in, contains_held}
 use Rattle.plain_tableau.specs.Trees.{TreeInstance}
 use Rattle.plain_tableau.specs.Expansion.{is_closed_branch, has_all, is_due}
 use Rattle.plain_tableau.specs.declared.due.Due.{Due}
-use Rattle.plain_tableau.specs.Internal.Due.{at_number, is_due_at, is_due_place, AreDue, IsInside, names_variable, AreNoted, clashes}
+use Rattle.plain_tableau.specs.Internal.Due.{at_number, is_due_at, is_due_place, AreDue, IsInside, names_variable, AreNotedByVariable, clashes}
 use Rattle.plain_tableau.proofs.ListLaws.{one_passes}
 use Rattle.plain_tableau.proofs.BranchLaws.{added_holds}
 
@@ -56,7 +56,7 @@ due_push b l i h =
     let parts = or_parts (mentions_variable i.principals l.var) (list_any (λ a. mentions_variable a l.var) i.alternatives) h in
     ap₂ (λ x y. x && not y) (all_push b l i.principals parts.0) (any_push b l i.alternatives parts.1)
 
-module _ (t : Table) (used : List ℕ) (noted : List (List ℕ)) (are : AreNoted t used noted) (places : List ℕ) (l : SatLit) (listed : (u : ℕ) → Contains (get_or noted l.var.0 []) u → Contains places u) where
+module _ (t : Table) (used : List ℕ) (noted : List (List ℕ)) (are : AreNotedByVariable t used noted) (places : List ℕ) (l : SatLit) (listed : (u : ℕ) → Contains (get_or noted l.var.0 []) u → Contains places u) where
   -- what is known of the branch with the literal, where the instances in which its variable stands were looked at again
   abbrev pub IsRefreshed : List SatLit → Due → Due → Type 0
   IsRefreshed branch old new = (u k : ℕ) → slice_get used u ≡ Some k → (Contains places u) ⊎ (is_due_place old u ≡ is_due_at t branch k) → is_due_place new u ≡ is_due_at t branch k

@@ -7,7 +7,7 @@ ghost use Rattle.tableau_calculus.specs.Kinds.{added};
 ghost use Rattle.search_spec.specs.Numbered.{numbers};
 ghost use Rattle.tableau_clauses.specs.Table.{the_instances};
 ghost use Rattle.plain_tableau.specs.Expansion.{has_all, first_clash};
-ghost use Rattle.plain_tableau.specs.Internal.Due.{is_due_at, is_due_place, clashes, AreDue, IsInside, AreNoted, ArePlacesOfUsed, AreLiteralsOver, IsPath};
+ghost use Rattle.plain_tableau.specs.Internal.Due.{is_due_at, is_due_place, clashes, AreDue, IsInside, AreNotedByVariable, ArePlacesOfUsed, AreLiteralsOver, IsPath};
 
 use crate::due::Due;
 use crate::noting::{no_places, note};
@@ -96,7 +96,7 @@ fn note_all(
     requires none { (v : ℕ) → slice_index_or noted.old.items v [] ≡ [] }
     requires nothing { (u : ℕ) → is_due_place due.old u ≡ false }
     ensures count { OnOk result (length noted.new.items ≡ length noted.old.items) }
-    ensures noted { OnOk result (AreNoted steps.now used.now noted.new.items) }
+    ensures noted { OnOk result (AreNotedByVariable steps.now used.now noted.new.items) }
     ensures places { OnOk result (ArePlacesOfUsed used.now noted.new.items) }
     ensures due { OnOk result (AreDue steps.now used.now branch.now.keys due.new) }
     ensures inside { OnOk result (IsInside used.now due.new) }

@@ -1,5 +1,6 @@
 mod Lists
 mod Writes
+mod NamesAt
 mod TermTexts
 pub mod LineTexts
 mod SharedLists

@@ -1,5 +1,5 @@
 -- The text of lines is that of their pieces.
-use Rattle.std.proofs.Common.{◌≡◌, ◌<◌, ℕ, Bool, zero, suc, length, List, [], ◌∷◌, ◌++◌, map, slice_get, Some, codes, decimal, refl, sym, ap, subst, ◌∙◌, append_assoc}
+use Rattle.std.proofs.Common.{◌≡◌, ◌<◌, ◌≤◌, ℕ, Bool, zero, suc, length, List, [], ◌∷◌, ◌++◌, map, slice_get, Some, codes, decimal, refl, sym, ap, subst, ◌∙◌, append_assoc, arith}
 use Rattle.tableau_calculus.specs.Literals.{Literal}
 use Rattle.tableau_calculus.specs.Witnesses.{Row}
 use Rattle.tableau_calculus.specs.declared.refutation.Child.{Child}
@@ -11,6 +11,15 @@ use Rattle.refute_print.specs.Text.{sign_text, version_text, definition_text, te
 use Rattle.refute_print.specs.Named.{Names, name_numbered, ArePlaces, named_term, named_literal, named_rule, named_line, HasNames, HaveNames, HasLineNames, RowsHaveNames, LinesHaveNames}
 use Rattle.refute_print.specs.Internal.Pieces.{version_line, definition_line, comma_before, literal_piece, child_piece, row_line, line_line}
 use Rattle.refute_print.proofs.Lists.{all_texts}
+
+-- the line of the version, without definitions and with some
+pub version_line-none : {X : Type 0} (f : X → List ℕ) (xs : List X) → length xs < 1 → codes "version 1\n" ≡ version_line (map f xs)
+version_line-none f [] h = refl
+version_line-none f (x ∷ xs) h = absurd (omega (arith, h))
+
+pub version_line-some : {X : Type 0} (f : X → List ℕ) (xs : List X) → 1 ≤ length xs → codes "version 2\n" ≡ version_line (map f xs)
+version_line-some f [] h = absurd (omega (arith, h))
+version_line-some f (x ∷ xs) h = refl
 
 -- a text before a number and one behind it, and what follows
 pub numbered_before : (a d b rest : List ℕ) → (a ++ (d ++ b)) ++ rest ≡ a ++ (d ++ (b ++ rest))

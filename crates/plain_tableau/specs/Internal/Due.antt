@@ -43,8 +43,8 @@ abbrev pub names_variable : TreeInstance SatLit → Var → Bool
 names_variable i v = mentions_variable i.principals v || list_any (λ a. mentions_variable a v) i.alternatives
 
 -- for each variable, the places of the instances in which it stands are listed
-abbrev pub AreNoted : Table → List ℕ → List (List ℕ) → Type 0
-AreNoted t used noted =
+abbrev pub AreNotedByVariable : Table → List ℕ → List (List ℕ) → Type 0
+AreNotedByVariable t used noted =
     (u k : ℕ) (v : Var) → slice_get used u ≡ Some k → names_variable (at_number t k) v ≡ true → Contains (slice_index_or noted v.0 []) u
 
 -- only places of instances are listed
@@ -71,7 +71,7 @@ clashes branch ls = list_any (λ l. holds branch (negated l) || holds ls (negate
 pub record IsPath (count : ℕ) (t : Table) (used : List ℕ) (p : Path) : Type 0 where
   pub over : IsOver count p.literals.keys
   pub counted : length p.noted.items ≡ count
-  pub noted : AreNoted t used p.noted.items
+  pub noted : AreNotedByVariable t used p.noted.items
   pub places : ArePlacesOfUsed used p.noted.items
   pub due : AreDue t used p.literals.keys p.due
   pub inside : IsInside used p.due

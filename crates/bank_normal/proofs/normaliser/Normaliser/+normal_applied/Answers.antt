@@ -1,3 +1,4 @@
+use Rattle.std.proofs.lemmas.Result.{IfOk-from_err}
 use Rattle.std.proofs.Common.{◌≡◌, map, sym, ap, subst, ◌∙◌, arith}
 use Rattle.stt_core.specs.ContextView.{the_context}
 use Rattle.stt_core.specs.Lambda.{lam, app, node_count}
@@ -7,7 +8,7 @@ use Rattle.normal_forms.specs.Internal.Applying.{IsApplicable}
 use Rattle.delta_defs.specs.Definitions.{unfolded}
 use Rattle.term_bank.specs.Content.{content_scope, HasTerm}
 use Rattle.term_bank.specs.Terms.{term_at}
-use Rattle.term_bank.proofs.GrowLaws.{has_within}
+use Rattle.term_bank.proofs.GrowLaws.{has_within, grows_on}
 use Rattle.bank_normal.specs.Forms.{forms_in}
 use Rattle.bank_normal.proofs.FormLaws.{forms_grown, are_forms_grown}
 use Rattle.bank_normal.proofs.RightLaws.{right_grown}
@@ -92,3 +93,69 @@ returns-in_ok-apply_all-in-Lam-clause-term t c =
     let f = c.in_ok-function-in-Lam.ensures in
     let e : the_term c.args.term.now ≡ lam (the_type c.in-Lam.a) (the_term c.deref-in-Lam.result.now) = ap the_term c.in-Lam.is ∙ ap (λ x. lam (the_type c.in-Lam.a) (the_term x)) (sym c.deref-in-Lam.ensures) in
     all_made b c.normal_applied-in-Lam.new.bank (the_context c.args.ctx.now) (unfolded ds (the_term c.args.term.now)) (the_type c.in-Lam.a) (unfolded ds (the_term c.deref-in-Lam.result.now)) c.args.args c.new-none-in-Lam.result c.in_ok-body-in-Lam.body v.grows c.requires.fits (ap (unfolded ds) e) c.new-none-in-Lam.ensures v.term c.intern_lam.new.self c.in_ok-function-in-Lam.function f.grows c.requires.within f.term c.apply_all.new.bank c.in_ok-apply_all-in-Lam.field-0 c.in_ok-apply_all-in-Lam.ensures.term
+
+pub returns-in_err-argument-in-App-clause-term : goal.returns-in_err-argument-in-App-clause-term
+returns-in_err-argument-in-App-clause-term t c = IfOk-from_err c.from_residual.result _ c.from_residual.ensures.0
+
+pub returns-in_err-argument-in-App-clause-grows : goal.returns-in_err-argument-in-App-clause-grows
+returns-in_err-argument-in-App-clause-grows t c = c.in_err-argument-in-App.ensures.grows
+
+pub returns-in_err-argument-in-App-clause-right : goal.returns-in_err-argument-in-App-clause-right
+returns-in_err-argument-in-App-clause-right t c = c.in_err-argument-in-App.ensures.right
+
+pub returns-in_err-push_front-in-App-clause-term : goal.returns-in_err-push_front-in-App-clause-term
+returns-in_err-push_front-in-App-clause-term t c = IfOk-from_err c.from_residual-in_err-push_front-in-App.result _ c.from_residual-in_err-push_front-in-App.ensures.0
+
+pub returns-in_err-push_front-in-App-clause-grows : goal.returns-in_err-push_front-in-App-clause-grows
+returns-in_err-push_front-in-App-clause-grows t c = c.in_ok-argument-in-App.ensures.grows
+
+pub returns-in_err-push_front-in-App-clause-right : goal.returns-in_err-push_front-in-App-clause-right
+returns-in_err-push_front-in-App-clause-right t c = c.in_ok-argument-in-App.ensures.right
+
+pub returns-in_err-normal_applied-in-App-clause-term : goal.returns-in_err-normal_applied-in-App-clause-term
+returns-in_err-normal_applied-in-App-clause-term t c = IfOk-from_err c.from_residual-in_err-normal_applied-in-App.result _ c.from_residual-in_err-normal_applied-in-App.ensures.0
+
+pub returns-in_err-normal_applied-in-App-clause-grows : goal.returns-in_err-normal_applied-in-App-clause-grows
+returns-in_err-normal_applied-in-App-clause-grows t c = grows_on c.args.bank.now c.normal_applied.new.bank c.normal_applied-in-App.new.bank c.in_ok-argument-in-App.ensures.grows c.in_err-normal_applied-in-App.ensures.grows
+
+pub returns-in_err-normal_applied-in-App-clause-right : goal.returns-in_err-normal_applied-in-App-clause-right
+returns-in_err-normal_applied-in-App-clause-right t c = c.in_err-normal_applied-in-App.ensures.right
+
+pub returns-in_err-body-in-Lam-clause-term : goal.returns-in_err-body-in-Lam-clause-term
+returns-in_err-body-in-Lam-clause-term t c = IfOk-from_err c.from_residual-in_err-body-in-Lam.result _ c.from_residual-in_err-body-in-Lam.ensures.0
+
+pub returns-in_err-body-in-Lam-clause-grows : goal.returns-in_err-body-in-Lam-clause-grows
+returns-in_err-body-in-Lam-clause-grows t c = c.in_err-body-in-Lam.ensures.grows
+
+pub returns-in_err-body-in-Lam-clause-right : goal.returns-in_err-body-in-Lam-clause-right
+returns-in_err-body-in-Lam-clause-right t c = c.in_err-body-in-Lam.ensures.right
+
+pub returns-in_err-function-in-Lam-clause-term : goal.returns-in_err-function-in-Lam-clause-term
+returns-in_err-function-in-Lam-clause-term t c = IfOk-from_err c.from_residual-in_err-function-in-Lam.result _ c.from_residual-in_err-function-in-Lam.ensures.0
+
+pub returns-in_err-function-in-Lam-clause-grows : goal.returns-in_err-function-in-Lam-clause-grows
+returns-in_err-function-in-Lam-clause-grows t c = grows_on c.args.bank.now c.normal_applied-in-Lam.new.bank c.intern_lam.new.self c.in_ok-body-in-Lam.ensures.grows c.in_err-function-in-Lam.ensures.grows
+
+pub returns-in_err-function-in-Lam-clause-right : goal.returns-in_err-function-in-Lam-clause-right
+returns-in_err-function-in-Lam-clause-right t c = right_grown c.normal_applied-in-Lam.new.self c.normal_applied-in-Lam.new.bank c.intern_lam.new.self c.in_err-function-in-Lam.ensures.grows c.in_ok-body-in-Lam.ensures.right
+
+pub returns-in_err-apply_all-in-Lam-clause-term : goal.returns-in_err-apply_all-in-Lam-clause-term
+returns-in_err-apply_all-in-Lam-clause-term t c = IfOk-from_err c.from_residual-in_err-apply_all-in-Lam.result _ c.from_residual-in_err-apply_all-in-Lam.ensures.0
+
+pub returns-in_err-apply_all-in-Lam-clause-grows : goal.returns-in_err-apply_all-in-Lam-clause-grows
+returns-in_err-apply_all-in-Lam-clause-grows t c = grows_on c.args.bank.now c.intern_lam.new.self c.apply_all.new.bank (grows_on c.args.bank.now c.normal_applied-in-Lam.new.bank c.intern_lam.new.self c.in_ok-body-in-Lam.ensures.grows c.in_ok-function-in-Lam.ensures.grows) c.in_err-apply_all-in-Lam.ensures.grows
+
+pub returns-in_err-apply_all-in-Lam-clause-right : goal.returns-in_err-apply_all-in-Lam-clause-right
+returns-in_err-apply_all-in-Lam-clause-right t c = c.in_err-apply_all-in-Lam.ensures.right
+
+pub returns-in_ok-normal_applied-in-App-clause-grows : goal.returns-in_ok-normal_applied-in-App-clause-grows
+returns-in_ok-normal_applied-in-App-clause-grows t c = grows_on c.args.bank.now c.normal_applied.new.bank c.normal_applied-in-App.new.bank c.in_ok-argument-in-App.ensures.grows c.in_ok-normal_applied-in-App.ensures.grows
+
+pub returns-in_ok-normal_applied-in-App-clause-right : goal.returns-in_ok-normal_applied-in-App-clause-right
+returns-in_ok-normal_applied-in-App-clause-right t c = c.in_ok-normal_applied-in-App.ensures.right
+
+pub returns-in_ok-apply_all-in-Lam-clause-grows : goal.returns-in_ok-apply_all-in-Lam-clause-grows
+returns-in_ok-apply_all-in-Lam-clause-grows t c = grows_on c.args.bank.now c.intern_lam.new.self c.apply_all.new.bank (grows_on c.args.bank.now c.normal_applied-in-Lam.new.bank c.intern_lam.new.self c.in_ok-body-in-Lam.ensures.grows c.in_ok-function-in-Lam.ensures.grows) c.in_ok-apply_all-in-Lam.ensures.grows
+
+pub returns-in_ok-apply_all-in-Lam-clause-right : goal.returns-in_ok-apply_all-in-Lam-clause-right
+returns-in_ok-apply_all-in-Lam-clause-right t c = c.in_ok-apply_all-in-Lam.ensures.right

@@ -1,3 +1,5 @@
+use Rattle.std.proofs.lemmas.Result.{IfOk-from_err}
+use Rattle.term_bank.proofs.GrowLaws.{grows_itself, grows_on}
 use Rattle.std.proofs.Common.{◌≡◌, ◌+◌, ◌<◌, map, length, ap, sym, subst, ◌∙◌, arith}
 use Rattle.std.specs.Prelude.{All}
 use Rattle.stt_core.specs.Lambda.{applied}
@@ -60,3 +62,63 @@ returns-clause-term c =
 
 pub returns-clause-right : goal.returns-clause-right
 returns-clause-right c = right_grown c.is_form_of.new.self c.is_form_of.new.bank c.intern_app.new.self c.in_ok-intern_app.ensures.grows c.in_ok-is_form.ensures.right
+
+pub returns-in_default-clause-grows : goal.returns-in_default-clause-grows
+returns-in_default-clause-grows c = grows_itself c.args.bank.now
+
+pub returns-in_default-clause-right : goal.returns-in_default-clause-right
+returns-in_default-clause-right c = c.requires.right
+
+pub returns-in_default-fitting-clause-grows : goal.returns-in_default-fitting-clause-grows
+returns-in_default-fitting-clause-grows c = grows_itself c.args.bank.now
+
+pub returns-in_default-fitting-clause-right : goal.returns-in_default-fitting-clause-right
+returns-in_default-fitting-clause-right c = c.requires.right
+
+pub returns-in_default-lowered-clause-grows : goal.returns-in_default-lowered-clause-grows
+returns-in_default-lowered-clause-grows c = grows_itself c.args.bank.now
+
+pub returns-in_default-lowered-clause-right : goal.returns-in_default-lowered-clause-right
+returns-in_default-lowered-clause-right c = c.requires.right
+
+pub returns-then-not-are_closed-clause-grows : goal.returns-then-not-are_closed-clause-grows
+returns-then-not-are_closed-clause-grows c = grows_itself c.args.bank.now
+
+pub returns-then-not-are_closed-clause-right : goal.returns-then-not-are_closed-clause-right
+returns-then-not-are_closed-clause-right c = c.requires.right
+
+pub returns-in_err-is_form-clause-term : goal.returns-in_err-is_form-clause-term
+returns-in_err-is_form-clause-term c = IfOk-from_err c.from_residual.result _ c.from_residual.ensures.0
+
+pub returns-in_err-is_form-clause-grows : goal.returns-in_err-is_form-clause-grows
+returns-in_err-is_form-clause-grows c = c.in_err-is_form.ensures.grows
+
+pub returns-in_err-is_form-clause-right : goal.returns-in_err-is_form-clause-right
+returns-in_err-is_form-clause-right c = c.in_err-is_form.ensures.right
+
+pub returns-then-not-is_form-clause-grows : goal.returns-then-not-is_form-clause-grows
+returns-then-not-is_form-clause-grows c = c.in_ok-is_form.ensures.grows
+
+pub returns-then-not-is_form-clause-right : goal.returns-then-not-is_form-clause-right
+returns-then-not-is_form-clause-right c = c.in_ok-is_form.ensures.right
+
+pub returns-in_err-all-clause-term : goal.returns-in_err-all-clause-term
+returns-in_err-all-clause-term c = IfOk-from_err c.from_residual-in_err-all.result _ c.from_residual-in_err-all.ensures.0
+
+pub returns-in_err-all-clause-grows : goal.returns-in_err-all-clause-grows
+returns-in_err-all-clause-grows c = c.in_ok-is_form.ensures.grows
+
+pub returns-in_err-all-clause-right : goal.returns-in_err-all-clause-right
+returns-in_err-all-clause-right c = c.in_ok-is_form.ensures.right
+
+pub returns-in_err-intern_app-clause-term : goal.returns-in_err-intern_app-clause-term
+returns-in_err-intern_app-clause-term c = IfOk-from_err c.from_residual-in_err-intern_app.result _ c.from_residual-in_err-intern_app.ensures.0
+
+pub returns-in_err-intern_app-clause-grows : goal.returns-in_err-intern_app-clause-grows
+returns-in_err-intern_app-clause-grows c = grows_on c.args.bank.now c.is_form_of.new.bank c.intern_app.new.self c.in_ok-is_form.ensures.grows c.in_err-intern_app.ensures.grows
+
+pub returns-in_err-intern_app-clause-right : goal.returns-in_err-intern_app-clause-right
+returns-in_err-intern_app-clause-right c = right_grown c.is_form_of.new.self c.is_form_of.new.bank c.intern_app.new.self c.in_err-intern_app.ensures.grows c.in_ok-is_form.ensures.right
+
+pub returns-clause-grows : goal.returns-clause-grows
+returns-clause-grows c = grows_on c.args.bank.now c.is_form_of.new.bank c.intern_app.new.self c.in_ok-is_form.ensures.grows c.in_ok-intern_app.ensures.grows
