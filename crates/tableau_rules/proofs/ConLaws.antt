@@ -11,6 +11,7 @@ use Rattle.tableau_calculus.specs.declared.rule_use.TwoPlaces.TheVariants.{Con}
 use Rattle.tableau_calculus.specs.declared.rule_use.RuleUse.TheVariants.{AtTwo}
 use Rattle.tableau_calculus.proofs.InstanceLaws.{con_is}
 use Rattle.tableau_calculus.proofs.EquationLaws.{eq_canonical}
+use Rattle.tableau_calculus.proofs.ListLaws.{untrue}
 use Rattle.term_bank.specs.Content.{Content, content_scope, Grows}
 use Rattle.term_bank.specs.Terms.{term_at}
 use Rattle.term_bank.proofs.GrowLaws.{grown_scope, grown_at, grown_term, grows_on, has_at, has_within}
@@ -97,6 +98,16 @@ module _ (b : Content) (p q : Principal) (e o : Equation) (hp : IsPrincipal b p)
 
 pub con_no_second : (b : Content) (rows : List Row) (p q : Principal) → IsEquationOf b (term_at b.terms q.atom) None → Drafted b rows (p ∷ q ∷ []) (AtTwo Con 0 1) None
 con_no_second b rows p q none = con_none (content_scope b) rows (principal_at b p) (principal_at b q) (λ n s t u v f g. none (base (suc n)) u v (ap (λ l. l.atom) g))
+
+pub con_no_first : (b : Content) (rows : List Row) (p q : Principal) → IsEquationOf b (term_at b.terms p.atom) None → Drafted b rows (p ∷ q ∷ []) (AtTwo Con 0 1) None
+con_no_first b rows p q none = con_none (content_scope b) rows (principal_at b p) (principal_at b q) (λ n s t u v f g. none (base (suc n)) s t (ap (λ l. l.atom) f))
+
+-- the first principal is denied, or the second is claimed
+pub con_denied : (b : Content) (rows : List Row) (p q : Principal) → p.positive ≡ false → Drafted b rows (p ∷ q ∷ []) (AtTwo Con 0 1) None
+con_denied b rows p q e = con_none (content_scope b) rows (principal_at b p) (principal_at b q) (λ n s t u v f g. untrue (ap (λ l. l.positive) f) e)
+
+pub con_claimed : (b : Content) (rows : List Row) (p q : Principal) → q.positive ≡ true → Drafted b rows (p ∷ q ∷ []) (AtTwo Con 0 1) None
+con_claimed b rows p q e = con_none (content_scope b) rows (principal_at b p) (principal_at b q) (λ n s t u v f g. untrue e (ap (λ l. l.positive) g))
 
 pub sides_same : (b : Content) (x a : SimpleType) (i s t : ℕ) → x ≡ a → i ≡ s → AreSides b a s t → AreSides b x i t
 sides_same b x a i s t e f h = subst₂ (λ y j. AreSides b y j t) (sym e) (sym f) h

@@ -15,5 +15,6 @@ pub mod DeclareLaws
 pub mod WitnessLaws
 pub mod UseLaws
 pub mod MadeLaws
+pub mod RefusedLaws
 pub mod SpineLaws
 pub mod SpineDrafts

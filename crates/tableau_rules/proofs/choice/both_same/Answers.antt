@@ -1,3 +1,4 @@
+use Rattle.std.proofs.lemmas.Result.{IfOk-from_err}
 use Rattle.stt_core.specs.View.{the_type}
 use Rattle.term_bank.proofs.GrowLaws.{grows_itself, grows_on}
 use Rattle.bank_normal.proofs.RightLaws.{right_grown}
@@ -58,3 +59,47 @@ returns-clause-right c =
 pub returns-in_err-intern_app-clause-right : goal.returns-in_err-intern_app-clause-right
 returns-in_err-intern_app-clause-right c =
     right_grown c.same_variables.new.normal c.same_variables.new.bank c.intern_app-2.new.self (grows_on c.same_variables.new.bank c.intern_app.new.self c.intern_app-2.new.self c.intern_app.ensures.grows c.intern_app-2.ensures.grows) c.same_variables.ensures.right
+
+pub at_outer_variable-requires-clause-predicate : goal.at_outer_variable-requires-clause-predicate
+at_outer_variable-requires-clause-predicate c = c.requires.predicate
+
+pub at_outer_variable-requires-clause-right : goal.at_outer_variable-requires-clause-right
+at_outer_variable-requires-clause-right c = c.requires.right
+
+pub returns-in_err-outer-clause-term : goal.returns-in_err-outer-clause-term
+returns-in_err-outer-clause-term c = IfOk-from_err _ _ c.from_residual.ensures.0
+
+pub returns-in_err-outer-clause-grows : goal.returns-in_err-outer-clause-grows
+returns-in_err-outer-clause-grows c = c.at_outer_variable.ensures.grows
+
+pub returns-in_err-outer-clause-right : goal.returns-in_err-outer-clause-right
+returns-in_err-outer-clause-right c = c.at_outer_variable.ensures.right
+
+pub same_variables-requires-clause-right : goal.same_variables-requires-clause-right
+same_variables-requires-clause-right c = c.at_outer_variable.ensures.right
+
+pub returns-in_err-same-clause-term : goal.returns-in_err-same-clause-term
+returns-in_err-same-clause-term c = IfOk-from_err _ _ c.from_residual-in_err-same.ensures.0
+
+pub returns-in_err-same-clause-grows : goal.returns-in_err-same-clause-grows
+returns-in_err-same-clause-grows c = grows_on c.args.bank.now c.at_outer_variable.new.bank c.same_variables.new.bank c.at_outer_variable.ensures.grows c.same_variables.ensures.grows
+
+pub returns-in_err-same-clause-right : goal.returns-in_err-same-clause-right
+returns-in_err-same-clause-right c = c.same_variables.ensures.right
+
+pub returns-in_err-then-clause-term : goal.returns-in_err-then-clause-term
+returns-in_err-then-clause-term c = IfOk-from_err _ _ c.from_residual-in_err-then.ensures.0
+
+pub returns-in_err-then-clause-grows : goal.returns-in_err-then-clause-grows
+returns-in_err-then-clause-grows c = grows_on c.args.bank.now c.at_outer_variable.new.bank c.intern_app.new.self c.at_outer_variable.ensures.grows (grows_on c.at_outer_variable.new.bank c.same_variables.new.bank c.intern_app.new.self c.same_variables.ensures.grows c.intern_app.ensures.grows)
+
+pub returns-in_err-then-clause-right : goal.returns-in_err-then-clause-right
+returns-in_err-then-clause-right c = right_grown c.same_variables.new.normal c.same_variables.new.bank c.intern_app.new.self c.intern_app.ensures.grows c.same_variables.ensures.right
+
+pub returns-in_err-intern_app-clause-term : goal.returns-in_err-intern_app-clause-term
+returns-in_err-intern_app-clause-term c = IfOk-from_err _ _ c.from_residual-in_err-intern_app.ensures.0
+
+pub returns-in_err-intern_app-clause-grows : goal.returns-in_err-intern_app-clause-grows
+returns-in_err-intern_app-clause-grows c =
+    grows_on c.args.bank.now c.at_outer_variable.new.bank c.intern_app-2.new.self c.at_outer_variable.ensures.grows
+    (grows_on c.at_outer_variable.new.bank c.same_variables.new.bank c.intern_app-2.new.self c.same_variables.ensures.grows (grows_on c.same_variables.new.bank c.intern_app.new.self c.intern_app-2.new.self c.intern_app.ensures.grows c.intern_app-2.ensures.grows))

@@ -1,4 +1,5 @@
-use Rattle.std.proofs.Common.{inr}
+use Rattle.std.proofs.Common.{inl, inr, refl}
+use Rattle.std.proofs.lemmas.Result.{IfOk-from_err}
 use Rattle.stt_core.specs.Lambda.{constant, witness}
 use Rattle.stt_core.specs.View.{the_type}
 use Rattle.normal_forms.specs.Normal.{eta}
@@ -111,3 +112,51 @@ returns-in_err-one-in-Some-clause-widens c = widens_on c.args.bank.now c.witness
 
 pub returns-in_err-one-in-Some-clause-rows : goal.returns-in_err-one-in-Some-clause-rows
 returns-in_err-one-in-Some-clause-rows c = rows_grown c.witness_of.new.bank c.instantiate.new.bank (grows_on c.witness_of.new.bank c.eta.new.bank c.instantiate.new.bank c.eta.ensures.grows c.instantiate.ensures.grows) c.witness_of.new.witnesses c.witness_of.ensures.declares.rows
+
+pub returns-in_err-ty-in-Some-clause-drafted : goal.returns-in_err-ty-in-Some-clause-drafted
+returns-in_err-ty-in-Some-clause-drafted c = IfOk-from_err _ _ c.from_residual.ensures.0
+
+pub returns-in_err-ty-in-Some-clause-witnesses : goal.returns-in_err-ty-in-Some-clause-witnesses
+returns-in_err-ty-in-Some-clause-witnesses c = IfOk-from_err _ _ c.from_residual.ensures.0
+
+pub returns-in_err-ty-in-Some-clause-all : goal.returns-in_err-ty-in-Some-clause-all
+returns-in_err-ty-in-Some-clause-all c = IfOk-from_err _ _ c.from_residual.ensures.0
+
+pub returns-in_err-w-in-Some-clause-drafted : goal.returns-in_err-w-in-Some-clause-drafted
+returns-in_err-w-in-Some-clause-drafted c = IfOk-from_err _ _ c.from_residual-in_err-w-in-Some.ensures.0
+
+pub returns-in_err-w-in-Some-clause-witnesses : goal.returns-in_err-w-in-Some-clause-witnesses
+returns-in_err-w-in-Some-clause-witnesses c = IfOk-from_err _ _ c.from_residual-in_err-w-in-Some.ensures.0
+
+pub returns-in_err-w-in-Some-clause-all : goal.returns-in_err-w-in-Some-clause-all
+returns-in_err-w-in-Some-clause-all c = IfOk-from_err _ _ c.from_residual-in_err-w-in-Some.ensures.0
+
+pub returns-in_err-witness-in-Some-clause-drafted : goal.returns-in_err-witness-in-Some-clause-drafted
+returns-in_err-witness-in-Some-clause-drafted c = IfOk-from_err _ _ c.from_residual-in_err-witness-in-Some.ensures.0
+
+pub returns-in_err-witness-in-Some-clause-witnesses : goal.returns-in_err-witness-in-Some-clause-witnesses
+returns-in_err-witness-in-Some-clause-witnesses c = IfOk-from_err _ _ c.from_residual-in_err-witness-in-Some.ensures.0
+
+pub returns-in_err-witness-in-Some-clause-all : goal.returns-in_err-witness-in-Some-clause-all
+returns-in_err-witness-in-Some-clause-all c = IfOk-from_err _ _ c.from_residual-in_err-witness-in-Some.ensures.0
+
+pub returns-in_err-value-in-Some-clause-drafted : goal.returns-in_err-value-in-Some-clause-drafted
+returns-in_err-value-in-Some-clause-drafted c = IfOk-from_err _ _ c.from_residual-in_err-value-in-Some.ensures.0
+
+pub returns-in_err-value-in-Some-clause-witnesses : goal.returns-in_err-value-in-Some-clause-witnesses
+returns-in_err-value-in-Some-clause-witnesses c = IfOk-from_err _ _ c.from_residual-in_err-value-in-Some.ensures.0
+
+pub returns-in_err-value-in-Some-clause-all : goal.returns-in_err-value-in-Some-clause-all
+returns-in_err-value-in-Some-clause-all c = IfOk-from_err _ _ c.from_residual-in_err-value-in-Some.ensures.0
+
+pub returns-in_err-one-in-Some-clause-drafted : goal.returns-in_err-one-in-Some-clause-drafted
+returns-in_err-one-in-Some-clause-drafted c = IfOk-from_err _ _ c.from_residual-in_err-one-in-Some.ensures.0
+
+pub returns-in_err-one-in-Some-clause-witnesses : goal.returns-in_err-one-in-Some-clause-witnesses
+returns-in_err-one-in-Some-clause-witnesses c = IfOk-from_err _ _ c.from_residual-in_err-one-in-Some.ensures.0
+
+pub returns-in_err-one-in-Some-clause-all : goal.returns-in_err-one-in-Some-clause-all
+returns-in_err-one-in-Some-clause-all c = IfOk-from_err _ _ c.from_residual-in_err-one-in-Some.ensures.0
+
+pub returns-in_err-ty-in-Some-clause-err : goal.returns-in_err-ty-in-Some-clause-err
+returns-in_err-ty-in-Some-clause-err c = on_err _ (inl refl)
