@@ -1,5 +1,5 @@
 -- The first group of each type.
-use Rattle.std.specs.Prelude.{◌≡◌, ℕ, suc, Bool, true, false, List, [], ◌∷◌, ◌++◌, length, Option, Some, None, slice_get, if◌then◌else◌, refl, map, filter}
+use Rattle.std.specs.Prelude.{◌≡◌, ℕ, suc, Bool, true, false, List, [], ◌∷◌, ◌++◌, length, Option, Some, None, slice_get, if◌then◌else◌, refl}
 use Rattle.std.proofs.Common.{set, sym, ap, ap₂, ◌∙◌, true≢false, arith}
 use Rattle.std.proofs.lemmas.Option.{same_Some}
 use Rattle.stt_core.specs.SimpleType.{SimpleType, same_type}
@@ -72,12 +72,6 @@ at_end a (k ∷ gs) h = go (same_type a k.0) (at_end a gs) h
     go : (b : Bool) → (group_place a gs ≡ length gs → first_group a gs ≡ []) → (if b then 0 else suc (group_place a gs)) ≡ suc (length gs) → (if b then k.1 else first_group a gs) ≡ []
     go true rest h = absurd (omega (arith, h))
     go false rest h = rest (omega (arith, h))
-
-    go : (t : Bool) → ids_of c (all ++ (a, id) ∷ []) ≡ (if same_type c a then ids_of c all ++ id ∷ [] else ids_of c all)
-        → map (λ (x : Listing). x.1) (if t then l ∷ filter (λ (x : Listing). same_type c x.0) (all ++ (a, id) ∷ []) else filter (λ (x : Listing). same_type c x.0) (all ++ (a, id) ∷ []))
-        ≡ (if same_type c a then map (λ (x : Listing). x.1) (if t then l ∷ filter (λ (x : Listing). same_type c x.0) all else filter (λ (x : Listing). same_type c x.0) all) ++ id ∷ [] else map (λ (x : Listing). x.1) (if t then l ∷ filter (λ (x : Listing). same_type c x.0) all else filter (λ (x : Listing). same_type c x.0) all))
-    go true rest = ap (λ xs. l.1 ∷ xs) rest ∙ under (same_type c a) (ids_of c all ++ id ∷ []) (ids_of c all)
-    go false rest = rest
 
 -- The lists stay right where both the list and the order take the term.
 by_type : (a c : SimpleType) (xs ys is os : List ℕ) → (same_type c a ≡ true → xs ≡ is) → ys ≡ os → (if same_type c a then xs else ys) ≡ (if same_type c a then is else os)

@@ -24,10 +24,6 @@ use Rattle.prover_state.proofs.EachLaws.{each-weaker}
 
 -- PLACES BY TARGET TYPES
 
-    go : (x : Bool) → (if x then old ++ i ∷ [] else old) ++ rest ≡ old ++ (if x then i ∷ rest else rest)
-    go true = append_assoc old (i ∷ []) rest
-    go false = refl
-
 -- what begins at a place
 places_here : (b i : ℕ) (types : List SimpleType) (a : SimpleType) → slice_get types i ≡ Some a
     → places_to b i (drop i types) ≡ (if nat_eq (target a) b then i ∷ places_to b (i + 1) (drop (i + 1) types) else places_to b (i + 1) (drop (i + 1) types))
