@@ -9,6 +9,8 @@ pub mod LearnerLaws
 pub mod LearnerSteps
 pub mod DecisionLaws
 pub mod SpentLaws
+pub mod WithinLaws
+pub mod PremiseLaws
 pub mod UsesLaws
 pub mod UsePushed
 pub mod KeeperLaws

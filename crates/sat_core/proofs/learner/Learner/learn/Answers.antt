@@ -1,14 +1,15 @@
-use Rattle.std.proofs.Common.{◌≡◌, [], ◌∷◌, ◌++◌, List, length, refl, sym, ap, ◌∙◌, subst}
+use Rattle.std.proofs.Common.{◌≡◌, [], ◌∷◌, ◌++◌, List, length, refl, sym, ap, ◌∙◌, subst, length-append}
 use Rattle.sat_base.specs.declared.literal.SatLit.{SatLit}
 use Rattle.sat_log.specs.Chains.{results}
 use Rattle.sat_log.specs.Propagation.{IsNew}
 use Rattle.sat_propagate.specs.Internal.Propagator.{texts}
 use Rattle.sat_propagate.specs.Internal.Trail.{TrailState}
 use Rattle.std.proofs.lemmas.Option.{same_Some}
-use Rattle.sat_core.specs.Internal.Learner.{IsNamedPropagator, AreLearned}
+use Rattle.sat_core.specs.Internal.Learner.{IsNamedPropagator, AreLearned, IsLearnerOf}
 use Rattle.sat_core.proofs.NameLaws.{ready_appended, ready_same, right_same, appended_results}
 use Rattle.sat_core.proofs.LearnerLaws.{learned_more, learned_open, IsNew-fewer, Grew-same, Grew-pushed}
 use Rattle.sat_core.proofs.LearnerSteps.{learner_logged, learner_kept, Includes-same}
+use Rattle.sat_log.specs.declared.log.LogEntry.{LogEntry}
 use Rattle.sat_core.proofs.learner.Learner.learn.Goals as goal
 
 pub returns-in_err-push-clause-grew : goal.returns-in_err-push-clause-grew
@@ -45,3 +46,34 @@ returns-clause-grew c =
     Grew-pushed s _ (record { chain = c.args.chain; result = appends.outcome }) refl (ap (λ (t : TrailState). length t.phases) c.bump.ensures.trail) appends.appended
     (λ filled. subst (λ (o : List SatLit). IsNew (s.clauses ++ results s.log) o) is
     (IsNew-fewer (s.clauses ++ results s.log) (texts s.propagator.clauses.items) learns.outcome c.requires.included learns.new))
+
+pub push-requires-clause-right : goal.push-requires-clause-right
+push-requires-clause-right c = c.requires.learner.logged
+
+pub returns-in_err-push-clause-learner : goal.returns-in_err-push-clause-learner
+returns-in_err-push-clause-learner c =
+    let s = c.args.self.now in
+    subst (λ (log : List LogEntry). IsLearnerOf s.clauses log s.is_refuted s.propagator s.names.items s.marks.marked s.inserted_clauses s.inserted_results) (sym c.in_err-push.ensures.err) c.requires.learner
+
+pub returns-in_err-push-clause-refuted : goal.returns-in_err-push-clause-refuted
+returns-in_err-push-clause-refuted c = refl
+
+pub returns-in_err-push-clause-inserted_clauses : goal.returns-in_err-push-clause-inserted_clauses
+returns-in_err-push-clause-inserted_clauses c = refl
+
+pub returns-in_err-push-clause-inserted_results : goal.returns-in_err-push-clause-inserted_results
+returns-in_err-push-clause-inserted_results c = refl
+
+pub returns-clause-refuted : goal.returns-clause-refuted
+returns-clause-refuted c = refl
+
+pub returns-clause-inserted_clauses : goal.returns-clause-inserted_clauses
+returns-clause-inserted_clauses c = refl
+
+pub returns-clause-inserted_results : goal.returns-clause-inserted_results
+returns-clause-inserted_results c = refl
+
+pub returns-clause-longer : goal.returns-clause-longer
+returns-clause-longer c =
+    let appends = c.in_ok-push.ensures.ok in
+    ap (λ (log : List LogEntry). length log) appends.appended ∙ length-append c.args.self.now.log (record { chain = c.args.chain; result = appends.outcome } ∷ [])
