@@ -1,5 +1,4 @@
 -- Lines that are right.
-use Rattle.std.specs.Prelude.{[]}
 use Rattle.stt_core.specs.Typing.{Scope}
 use Rattle.tableau_calculus.specs.Accepted.{AreRightLines}
 use Rattle.tableau_calculus.specs.declared.refutation.Refutation.{Refutation}

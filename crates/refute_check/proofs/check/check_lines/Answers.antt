@@ -1,9 +1,11 @@
-use Rattle.std.proofs.Common.{◌≡◌, ◌∙◌, false, refl, map, take, sym, subst}
+use Rattle.std.proofs.Common.{◌≡◌, ◌∙◌, false, refl, map, take, take_all, sym, subst, arith}
 use Rattle.std.proofs.lemmas.List.{length-map}
 use Rattle.std.proofs.lemmas.List.Elements.{All-nil}
+use Rattle.std.proofs.lemmas.Result.{IfOk-from_err}
 use Rattle.stt_core.proofs.ListLaws.{take_got, mapped_get}
 use Rattle.tableau_calculus.specs.Witnesses.{with_rows}
-use Rattle.tableau_calculus.specs.CutFree.{is_cut_use}
+use Rattle.tableau_calculus.specs.Accepted.{AreRightLines}
+use Rattle.tableau_calculus.specs.CutFree.{is_cut_use, HasNoCut}
 use Rattle.tableau_calculus.specs.declared.refutation.Line.{Line}
 use Rattle.tableau_calculus.proofs.FailureLaws.{lines-more}
 use Rattle.refute_print.specs.TextView.{the_line, the_text}
@@ -67,3 +69,51 @@ loop-i-preserved c =
       c.in_ok-found.ensures.seen none,
       no_cut-more c.args.strict lines i line at c.loop-i.invariant.7 right.1,
     )
+
+pub returns-in_err-found-clause-right : goal.returns-in_err-found-clause-right
+returns-in_err-found-clause-right c = IfOk-from_err _ _ c.from_residual.ensures.0
+
+pub returns-in_err-found-clause-no_cut : goal.returns-in_err-found-clause-no_cut
+returns-in_err-found-clause-no_cut c = IfOk-from_err _ _ c.from_residual.ensures.0
+
+pub returns-in_err-found-clause-branches : goal.returns-in_err-found-clause-branches
+returns-in_err-found-clause-branches c = IfOk-from_err _ _ c.from_residual.ensures.0
+
+pub returns-in_err-found-clause-atoms : goal.returns-in_err-found-clause-atoms
+returns-in_err-found-clause-atoms c = IfOk-from_err _ _ c.from_residual.ensures.0
+
+pub returns-in-Some-clause-right : goal.returns-in-Some-clause-right
+returns-in-Some-clause-right c = tt
+
+pub returns-in-Some-clause-no_cut : goal.returns-in-Some-clause-no_cut
+returns-in-Some-clause-no_cut c = tt
+
+pub returns-in-Some-clause-branches : goal.returns-in-Some-clause-branches
+returns-in-Some-clause-branches c = tt
+
+pub returns-in-Some-clause-atoms : goal.returns-in-Some-clause-atoms
+returns-in-Some-clause-atoms c = tt
+
+pub returns-clause-right : goal.returns-clause-right
+returns-clause-right c =
+    let lines = map (numbered_line c.args.numbering.now) (map the_line c.args.text.now.lines) in
+    let whole = take_all c.loop-i.i lines (omega (arith, c.len-i-end.ensures, length-map c.args.text.now.lines the_line, length-map (map the_line c.args.text.now.lines) (numbered_line c.args.numbering.now))) in
+    subst (AreRightLines (declared_in c.args.shared.now) (map (numbered_row c.args.numbering.now) c.args.text.now.witnesses)) whole c.loop-i.invariant.5
+
+pub returns-clause-no_cut : goal.returns-clause-no_cut
+returns-clause-no_cut c =
+    let lines = map (numbered_line c.args.numbering.now) (map the_line c.args.text.now.lines) in
+    let whole = take_all c.loop-i.i lines (omega (arith, c.len-i-end.ensures, length-map c.args.text.now.lines the_line, length-map (map the_line c.args.text.now.lines) (numbered_line c.args.numbering.now))) in
+    λ e. subst HasNoCut whole (c.loop-i.invariant.7 e)
+
+pub returns-clause-branches : goal.returns-clause-branches
+returns-clause-branches c =
+    let lines = map (numbered_line c.args.numbering.now) (map the_line c.args.text.now.lines) in
+    let whole = take_all c.loop-i.i lines (omega (arith, c.len-i-end.ensures, length-map c.args.text.now.lines the_line, length-map (map the_line c.args.text.now.lines) (numbered_line c.args.numbering.now))) in
+    subst (λ ls. AreBranches (shared_atoms c.loop-i.shared) ls c.loop-i.lines.branches.items) whole c.loop-i.invariant.4
+
+pub returns-clause-atoms : goal.returns-clause-atoms
+returns-clause-atoms c = c.loop-i.invariant.3
+
+pub returns-clause-refused : goal.returns-clause-refused
+returns-clause-refused c = tt

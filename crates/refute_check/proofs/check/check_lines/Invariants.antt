@@ -1,4 +1,4 @@
-use Rattle.std.proofs.Common.{◌≡◌, true, [], map, take}
+use Rattle.std.proofs.Common.{◌≡◌, true, map, take}
 use Rattle.tableau_calculus.specs.Accepted.{AreRightLines}
 use Rattle.tableau_calculus.specs.CutFree.{HasNoCut}
 use Rattle.refute_print.specs.TextView.{the_line}

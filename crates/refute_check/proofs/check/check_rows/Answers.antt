@@ -1,5 +1,8 @@
-use Rattle.std.proofs.Common.{◌++◌, [], ◌∷◌, ◌∙◌, refl, map, take, ap, sym, subst}
+use Rattle.std.proofs.Common.{◌++◌, [], ◌∷◌, ◌∙◌, refl, map, take, take_all, ap, sym, subst, arith}
+use Rattle.std.proofs.lemmas.List.{length-map}
+use Rattle.std.proofs.lemmas.Result.{IfOk-from_err}
 use Rattle.stt_core.proofs.ListLaws.{take_got, mapped_get}
+use Rattle.tableau_calculus.specs.Witnesses.{IsTable}
 use Rattle.tableau_calculus.specs.Internal.Answers.{RowAnswer}
 use Rattle.tableau_calculus.proofs.FailureLaws.{row_refused, table-more}
 use Rattle.refute_print.specs.TextView.{the_text}
@@ -42,3 +45,60 @@ loop-i-preserved c =
       grow-more (shared_atoms c.args.shared.now) (shared_atoms c.loop-i.shared) (shared_atoms c.add_row.new.self) c.loop-i.invariant.3 (c.in_ok-why.ensures.atoms c.in_default.is),
       c.in_ok-why.ensures.declared c.in_default.is ∙ c.loop-i.invariant.4,
     )
+
+pub returns-in_err-why-clause-rows : goal.returns-in_err-why-clause-rows
+returns-in_err-why-clause-rows c = IfOk-from_err _ _ c.from_residual.ensures.0
+
+pub returns-in_err-why-clause-table : goal.returns-in_err-why-clause-table
+returns-in_err-why-clause-table c = IfOk-from_err _ _ c.from_residual.ensures.0
+
+pub returns-in_err-why-clause-atoms : goal.returns-in_err-why-clause-atoms
+returns-in_err-why-clause-atoms c = IfOk-from_err _ _ c.from_residual.ensures.0
+
+pub returns-in_err-why-clause-declared : goal.returns-in_err-why-clause-declared
+returns-in_err-why-clause-declared c = IfOk-from_err _ _ c.from_residual.ensures.0
+
+pub returns-in_err-why-clause-good : goal.returns-in_err-why-clause-good
+returns-in_err-why-clause-good c = IfOk-from_err _ _ c.from_residual.ensures.0
+
+pub returns-in-Some-clause-rows : goal.returns-in-Some-clause-rows
+returns-in-Some-clause-rows c = tt
+
+pub returns-in-Some-clause-table : goal.returns-in-Some-clause-table
+returns-in-Some-clause-table c = tt
+
+pub returns-in-Some-clause-atoms : goal.returns-in-Some-clause-atoms
+returns-in-Some-clause-atoms c = tt
+
+pub returns-in-Some-clause-declared : goal.returns-in-Some-clause-declared
+returns-in-Some-clause-declared c = tt
+
+pub returns-in-Some-clause-good : goal.returns-in-Some-clause-good
+returns-in-Some-clause-good c = tt
+
+pub returns-clause-rows : goal.returns-clause-rows
+returns-clause-rows c =
+    let rows = map (numbered_row c.args.numbering.now) c.args.text.now.witnesses in
+    let whole = take_all c.loop-i.i rows (omega (arith, c.len-i-end.ensures, length-map c.args.text.now.witnesses (numbered_row c.args.numbering.now))) in
+    c.loop-i.invariant.1 ∙ whole
+
+pub returns-clause-table : goal.returns-clause-table
+returns-clause-table c =
+    let rows = map (numbered_row c.args.numbering.now) c.args.text.now.witnesses in
+    let whole = take_all c.loop-i.i rows (omega (arith, c.len-i-end.ensures, length-map c.args.text.now.witnesses (numbered_row c.args.numbering.now))) in
+    subst (IsTable (declared_in c.args.shared.now)) whole c.loop-i.invariant.2
+
+pub returns-clause-atoms : goal.returns-clause-atoms
+returns-clause-atoms c = c.loop-i.invariant.3
+
+pub returns-clause-declared : goal.returns-clause-declared
+returns-clause-declared c = c.loop-i.invariant.4
+
+pub returns-clause-good : goal.returns-clause-good
+returns-clause-good c = c.loop-i.invariant.0
+
+pub returns-clause-row : goal.returns-clause-row
+returns-clause-row c = tt
+
+pub returns-clause-refused : goal.returns-clause-refused
+returns-clause-refused c = tt

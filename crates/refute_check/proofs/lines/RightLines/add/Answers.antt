@@ -1,9 +1,10 @@
-use Rattle.std.proofs.Common.{◌++◌, [], ◌∷◌, None, Some, IfSome, sym, subst}
+use Rattle.std.proofs.Common.{◌++◌, [], ◌∷◌, None, Some, IfSome, is_some, true≢false, ap, sym, subst}
+use Rattle.std.proofs.lemmas.Result.{IfOk-from_err}
 use Rattle.tableau_calculus.proofs.ListLaws.{untrue}
 use Rattle.refute_print.specs.TextView.{the_line}
 use Rattle.refute_check.specs.Numbered.{numbered_line}
 use Rattle.refute_check.specs.Internal.Branches.{branch_has, line_has, Represents, AreNumberedBranch, AreBranches}
-use Rattle.refute_check.specs.Internal.Shared.{shared_scope, shared_atoms, the_rows, ExtendsShared, NumbersBranch}
+use Rattle.refute_check.specs.Internal.Shared.{shared_scope, shared_atoms, the_rows, IsGoodShared, ExtendsShared, NumbersBranch}
 use Rattle.refute_check.specs.Internal.Taking.{Takes, FindsUse, alternatives_in}
 use Rattle.refute_check.proofs.BranchLaws.{represents-same, branches-append}
 use Rattle.refute_check.proofs.SharedLaws.{extends_on, extends_numbers}
@@ -185,3 +186,171 @@ returns-clause-seen c = λ _.
     let s3 = c.instance.new.self in
     let g = subst (λ o. IfSome o (λ _. ExtendsShared s2 s3)) c.in-Some-2.is c.in_ok-instance.ensures.extends in
     seen_stays c.args.numbering.now s1 s3 c.branch-shared.new.seen c.in_ok-branch.ensures.good (extends_on s1 s2 s3 c.in_ok-by.ensures.extends g) c.in_ok-branch.ensures.seen
+
+pub returns-in_err-branch-clause-answer : goal.returns-in_err-branch-clause-answer
+returns-in_err-branch-clause-answer c = IfOk-from_err _ _ c.from_residual.ensures.0
+
+pub returns-in_err-branch-clause-added : goal.returns-in_err-branch-clause-added
+returns-in_err-branch-clause-added c = IfOk-from_err _ _ c.from_residual.ensures.0
+
+pub returns-in_err-branch-clause-extends : goal.returns-in_err-branch-clause-extends
+returns-in_err-branch-clause-extends c = IfOk-from_err _ _ c.from_residual.ensures.0
+
+pub returns-in_err-branch-clause-good : goal.returns-in_err-branch-clause-good
+returns-in_err-branch-clause-good c = IfOk-from_err _ _ c.from_residual.ensures.0
+
+pub returns-in_err-branch-clause-seen : goal.returns-in_err-branch-clause-seen
+returns-in_err-branch-clause-seen c = IfOk-from_err _ _ c.from_residual.ensures.0
+
+pub returns-in_err-by-clause-answer : goal.returns-in_err-by-clause-answer
+returns-in_err-by-clause-answer c = IfOk-from_err _ _ c.from_residual-in_err-by.ensures.0
+
+pub returns-in_err-by-clause-added : goal.returns-in_err-by-clause-added
+returns-in_err-by-clause-added c = IfOk-from_err _ _ c.from_residual-in_err-by.ensures.0
+
+pub returns-in_err-by-clause-extends : goal.returns-in_err-by-clause-extends
+returns-in_err-by-clause-extends c = IfOk-from_err _ _ c.from_residual-in_err-by.ensures.0
+
+pub returns-in_err-by-clause-good : goal.returns-in_err-by-clause-good
+returns-in_err-by-clause-good c = IfOk-from_err _ _ c.from_residual-in_err-by.ensures.0
+
+pub returns-in_err-by-clause-seen : goal.returns-in_err-by-clause-seen
+returns-in_err-by-clause-seen c = IfOk-from_err _ _ c.from_residual-in_err-by.ensures.0
+
+pub returns-in_err-instance-clause-answer : goal.returns-in_err-instance-clause-answer
+returns-in_err-instance-clause-answer c = IfOk-from_err _ _ c.from_residual-in_err-instance.ensures.0
+
+pub returns-in_err-instance-clause-added : goal.returns-in_err-instance-clause-added
+returns-in_err-instance-clause-added c = IfOk-from_err _ _ c.from_residual-in_err-instance.ensures.0
+
+pub returns-in_err-instance-clause-extends : goal.returns-in_err-instance-clause-extends
+returns-in_err-instance-clause-extends c = IfOk-from_err _ _ c.from_residual-in_err-instance.ensures.0
+
+pub returns-in_err-instance-clause-good : goal.returns-in_err-instance-clause-good
+returns-in_err-instance-clause-good c = IfOk-from_err _ _ c.from_residual-in_err-instance.ensures.0
+
+pub returns-in_err-instance-clause-seen : goal.returns-in_err-instance-clause-seen
+returns-in_err-instance-clause-seen c = IfOk-from_err _ _ c.from_residual-in_err-instance.ensures.0
+
+pub returns-in_err-own-clause-answer : goal.returns-in_err-own-clause-answer
+returns-in_err-own-clause-answer c = IfOk-from_err _ _ c.from_residual-in_err-own.ensures.0
+
+pub returns-in_err-own-clause-added : goal.returns-in_err-own-clause-added
+returns-in_err-own-clause-added c = IfOk-from_err _ _ c.from_residual-in_err-own.ensures.0
+
+pub returns-in_err-own-clause-extends : goal.returns-in_err-own-clause-extends
+returns-in_err-own-clause-extends c = IfOk-from_err _ _ c.from_residual-in_err-own.ensures.0
+
+pub returns-in_err-own-clause-good : goal.returns-in_err-own-clause-good
+returns-in_err-own-clause-good c = IfOk-from_err _ _ c.from_residual-in_err-own.ensures.0
+
+pub returns-in_err-own-clause-seen : goal.returns-in_err-own-clause-seen
+returns-in_err-own-clause-seen c = IfOk-from_err _ _ c.from_residual-in_err-own.ensures.0
+
+pub returns-in_err-are_children-clause-answer : goal.returns-in_err-are_children-clause-answer
+returns-in_err-are_children-clause-answer c = IfOk-from_err _ _ c.from_residual-in_err-are_children.ensures.0
+
+pub returns-in_err-are_children-clause-added : goal.returns-in_err-are_children-clause-added
+returns-in_err-are_children-clause-added c = IfOk-from_err _ _ c.from_residual-in_err-are_children.ensures.0
+
+pub returns-in_err-are_children-clause-extends : goal.returns-in_err-are_children-clause-extends
+returns-in_err-are_children-clause-extends c = IfOk-from_err _ _ c.from_residual-in_err-are_children.ensures.0
+
+pub returns-in_err-are_children-clause-good : goal.returns-in_err-are_children-clause-good
+returns-in_err-are_children-clause-good c = IfOk-from_err _ _ c.from_residual-in_err-are_children.ensures.0
+
+pub returns-in_err-are_children-clause-seen : goal.returns-in_err-are_children-clause-seen
+returns-in_err-are_children-clause-seen c = IfOk-from_err _ _ c.from_residual-in_err-are_children.ensures.0
+
+pub returns-in_err-listed-clause-answer : goal.returns-in_err-listed-clause-answer
+returns-in_err-listed-clause-answer c = IfOk-from_err _ _ c.from_residual-in_err-listed.ensures.0
+
+pub returns-in_err-listed-clause-added : goal.returns-in_err-listed-clause-added
+returns-in_err-listed-clause-added c = IfOk-from_err _ _ c.from_residual-in_err-listed.ensures.0
+
+pub returns-in_err-listed-clause-extends : goal.returns-in_err-listed-clause-extends
+returns-in_err-listed-clause-extends c = IfOk-from_err _ _ c.from_residual-in_err-listed.ensures.0
+
+pub returns-in_err-listed-clause-good : goal.returns-in_err-listed-clause-good
+returns-in_err-listed-clause-good c = IfOk-from_err _ _ c.from_residual-in_err-listed.ensures.0
+
+pub returns-in_err-listed-clause-seen : goal.returns-in_err-listed-clause-seen
+returns-in_err-listed-clause-seen c = IfOk-from_err _ _ c.from_residual-in_err-listed.ensures.0
+
+pub returns-in_err-push-clause-answer : goal.returns-in_err-push-clause-answer
+returns-in_err-push-clause-answer c = IfOk-from_err _ _ c.from_residual-in_err-push.ensures.0
+
+pub returns-in_err-push-clause-added : goal.returns-in_err-push-clause-added
+returns-in_err-push-clause-added c = IfOk-from_err _ _ c.from_residual-in_err-push.ensures.0
+
+pub returns-in_err-push-clause-extends : goal.returns-in_err-push-clause-extends
+returns-in_err-push-clause-extends c = IfOk-from_err _ _ c.from_residual-in_err-push.ensures.0
+
+pub returns-in_err-push-clause-good : goal.returns-in_err-push-clause-good
+returns-in_err-push-clause-good c = IfOk-from_err _ _ c.from_residual-in_err-push.ensures.0
+
+pub returns-in_err-push-clause-seen : goal.returns-in_err-push-clause-seen
+returns-in_err-push-clause-seen c = IfOk-from_err _ _ c.from_residual-in_err-push.ensures.0
+
+pub returns-in_default-clause-added : goal.returns-in_default-clause-added
+returns-in_default-clause-added c = λ e. absurd (true≢false (ap is_some e))
+
+pub returns-in_default-clause-extends : goal.returns-in_default-clause-extends
+returns-in_default-clause-extends c = λ e. absurd (true≢false (ap is_some e))
+
+pub returns-in_default-clause-good : goal.returns-in_default-clause-good
+returns-in_default-clause-good c = λ e. absurd (true≢false (ap is_some e))
+
+pub returns-in_default-clause-seen : goal.returns-in_default-clause-seen
+returns-in_default-clause-seen c = λ e. absurd (true≢false (ap is_some e))
+
+pub returns-in-Missing-clause-added : goal.returns-in-Missing-clause-added
+returns-in-Missing-clause-added c = λ e. absurd (true≢false (ap is_some e))
+
+pub returns-in-Missing-clause-extends : goal.returns-in-Missing-clause-extends
+returns-in-Missing-clause-extends c = λ e. absurd (true≢false (ap is_some e))
+
+pub returns-in-Missing-clause-good : goal.returns-in-Missing-clause-good
+returns-in-Missing-clause-good c = λ e. absurd (true≢false (ap is_some e))
+
+pub returns-in-Missing-clause-seen : goal.returns-in-Missing-clause-seen
+returns-in-Missing-clause-seen c = λ e. absurd (true≢false (ap is_some e))
+
+pub returns-in-Untyped-clause-added : goal.returns-in-Untyped-clause-added
+returns-in-Untyped-clause-added c = λ e. absurd (true≢false (ap is_some e))
+
+pub returns-in-Untyped-clause-extends : goal.returns-in-Untyped-clause-extends
+returns-in-Untyped-clause-extends c = λ e. absurd (true≢false (ap is_some e))
+
+pub returns-in-Untyped-clause-good : goal.returns-in-Untyped-clause-good
+returns-in-Untyped-clause-good c = λ e. absurd (true≢false (ap is_some e))
+
+pub returns-in-Untyped-clause-seen : goal.returns-in-Untyped-clause-seen
+returns-in-Untyped-clause-seen c = λ e. absurd (true≢false (ap is_some e))
+
+pub returns-in_default-2-clause-added : goal.returns-in_default-2-clause-added
+returns-in_default-2-clause-added c = λ e. absurd (true≢false (ap is_some e))
+
+pub returns-in_default-2-clause-extends : goal.returns-in_default-2-clause-extends
+returns-in_default-2-clause-extends c = λ e. absurd (true≢false (ap is_some e))
+
+pub returns-in_default-2-clause-good : goal.returns-in_default-2-clause-good
+returns-in_default-2-clause-good c = λ e. absurd (true≢false (ap is_some e))
+
+pub returns-in_default-2-clause-seen : goal.returns-in_default-2-clause-seen
+returns-in_default-2-clause-seen c = λ e. absurd (true≢false (ap is_some e))
+
+pub returns-then-not-branch-clause-added : goal.returns-then-not-branch-clause-added
+returns-then-not-branch-clause-added c = λ e. absurd (true≢false (ap is_some e))
+
+pub returns-then-not-branch-clause-extends : goal.returns-then-not-branch-clause-extends
+returns-then-not-branch-clause-extends c = λ e. absurd (true≢false (ap is_some e))
+
+pub returns-then-not-branch-clause-good : goal.returns-then-not-branch-clause-good
+returns-then-not-branch-clause-good c = λ e. absurd (true≢false (ap is_some e))
+
+pub returns-then-not-branch-clause-seen : goal.returns-then-not-branch-clause-seen
+returns-then-not-branch-clause-seen c = λ e. absurd (true≢false (ap is_some e))
+
+pub returns-clause-good : goal.returns-clause-good
+returns-clause-good c = λ _. subst (λ o. IfSome o (λ _. IsGoodShared c.instance.new.self)) c.in-Some-2.is c.in_ok-instance.ensures.good

@@ -1,4 +1,5 @@
 use Rattle.std.proofs.Common.{◌∙◌, [], ◌∷◌, refl, ap, sym, subst, map, take}
+use Rattle.std.proofs.lemmas.Result.{IfOk-from_err}
 use Rattle.stt_core.proofs.ListLaws.{mapped_get, take_got, map-append}
 use Rattle.tableau_calculus.specs.Literals.{IsBranch}
 use Rattle.tableau_calculus.proofs.ListLaws.{contains-get}
@@ -44,3 +45,42 @@ loop-i-preserved c =
       subst (λ ls. AreNumbersOf new ls c.push.new.self) (sym all) more.1,
       c.in_ok-lit.ensures.seen,
     )
+
+pub returns-in_err-lit-clause-branch : goal.returns-in_err-lit-clause-branch
+returns-in_err-lit-clause-branch c = IfOk-from_err _ _ c.from_residual.ensures.0
+
+pub returns-in_err-lit-clause-extends : goal.returns-in_err-lit-clause-extends
+returns-in_err-lit-clause-extends c = IfOk-from_err _ _ c.from_residual.ensures.0
+
+pub returns-in_err-lit-clause-good : goal.returns-in_err-lit-clause-good
+returns-in_err-lit-clause-good c = IfOk-from_err _ _ c.from_residual.ensures.0
+
+pub returns-in_err-lit-clause-seen : goal.returns-in_err-lit-clause-seen
+returns-in_err-lit-clause-seen c = IfOk-from_err _ _ c.from_residual.ensures.0
+
+pub returns-in_err-push-in-Some-clause-branch : goal.returns-in_err-push-in-Some-clause-branch
+returns-in_err-push-in-Some-clause-branch c = IfOk-from_err _ _ c.from_residual-in_err-push-in-Some.ensures.0
+
+pub returns-in_err-push-in-Some-clause-extends : goal.returns-in_err-push-in-Some-clause-extends
+returns-in_err-push-in-Some-clause-extends c = IfOk-from_err _ _ c.from_residual-in_err-push-in-Some.ensures.0
+
+pub returns-in_err-push-in-Some-clause-good : goal.returns-in_err-push-in-Some-clause-good
+returns-in_err-push-in-Some-clause-good c = IfOk-from_err _ _ c.from_residual-in_err-push-in-Some.ensures.0
+
+pub returns-in_err-push-in-Some-clause-seen : goal.returns-in_err-push-in-Some-clause-seen
+returns-in_err-push-in-Some-clause-seen c = IfOk-from_err _ _ c.from_residual-in_err-push-in-Some.ensures.0
+
+pub returns-in-None-clause-good : goal.returns-in-None-clause-good
+returns-in-None-clause-good c = c.in_ok-lit.ensures.good
+
+pub returns-in-None-clause-seen : goal.returns-in-None-clause-seen
+returns-in-None-clause-seen c = c.in_ok-lit.ensures.seen
+
+pub returns-clause-extends : goal.returns-clause-extends
+returns-clause-extends c = c.loop-i.invariant.1
+
+pub returns-clause-good : goal.returns-clause-good
+returns-clause-good c = c.loop-i.invariant.0
+
+pub returns-clause-seen : goal.returns-clause-seen
+returns-clause-seen c = c.loop-i.invariant.4
