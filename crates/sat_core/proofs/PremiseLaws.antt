@@ -1,5 +1,5 @@
 -- The premise that a conflict has for its name.
-use Rattle.std.proofs.Common.{◌≡◌, ℕ, List, [], ◌∷◌, Some, length, refl, sym, ◌∙◌, subst}
+use Rattle.std.proofs.Common.{◌≡◌, ℕ, List, Some, refl, sym, ◌∙◌, subst}
 use Rattle.std.specs.Prelude.{◌≢◌, IsSome, Option, None}
 use Rattle.std.specs.List.{slice_get}
 use Rattle.std.proofs.lemmas.Option.{same_Some}
@@ -10,7 +10,6 @@ use Rattle.sat_log.specs.Propagation.{IsFalseIn}
 use Rattle.sat_propagate.specs.Internal.Trail.{TrailState, literals}
 use Rattle.sat_propagate.specs.Internal.Propagator.{IsConflict}
 use Rattle.sat_propagate.specs.Internal.ClauseTable.{Watched}
-use Rattle.sat_core.specs.declared.learner.Answer.{Answer}
 use Rattle.sat_core.specs.Internal.Learned.{AreNamedPremises}
 
 -- the premise is the conflict's clause
@@ -30,12 +29,5 @@ pub conflict_false : (store results : List (List SatLit)) (names : List Premise)
 conflict_false store results names clauses trail n premise clause named conflict at is =
     subst (IsFalseIn (literals trail.steps)) (same_Some conflict.watched.clause clause (sym (conflict_named store results names clauses trail n premise named conflict at) ∙ is)) conflict.falsified
 
-pub no_level : (starts : List ℕ) → length starts ≡ 0 → starts ≡ []
-no_level [] e = refl
-no_level (start ∷ starts) e = absurd (cc)
-
-pub premise_is_there : (premise : Premise) → Some premise ≢ None
-premise_is_there premise e = cc
-
-pub answer_is_there : (answer : Answer) → Some answer ≢ None
-answer_is_there answer e = cc
+pub Some≢None : {X : Type 0} (x : X) → Some x ≢ None
+Some≢None x e = cc

@@ -12,7 +12,7 @@ use Rattle.sat_core.proofs.NameLaws.{result_there}
 use Rattle.sat_core.proofs.LearnerLaws.{all_inserted}
 use Rattle.sat_core.proofs.LearnerSteps.{learner_next_clause, learner_next_result, IsUnlearned-trans, pushed_there}
 use Rattle.sat_core.proofs.WithinLaws.{over_kept}
-use Rattle.sat_core.proofs.PremiseLaws.{premise_is_there}
+use Rattle.sat_core.proofs.PremiseLaws.{Some≢None}
 use Rattle.std.proofs.lemmas.Result.{IfOk-from_err}
 use Rattle.sat_core.proofs.learner.Learner.insert_all.Goals as goal
 
@@ -123,13 +123,13 @@ pub returns-in_err-insert-clause-all_results : goal.returns-in_err-insert-clause
 returns-in_err-insert-clause-all_results c = IfOk-from_err c.from_residual.result _ c.from_residual.ensures.0
 
 pub returns-then-not-branch-clause-included : goal.returns-then-not-branch-clause-included
-returns-then-not-branch-clause-included c = λ e. absurd (premise_is_there _ e)
+returns-then-not-branch-clause-included c = λ e. absurd (Some≢None _ e)
 
 pub returns-then-not-branch-clause-all_clauses : goal.returns-then-not-branch-clause-all_clauses
-returns-then-not-branch-clause-all_clauses c = λ e. absurd (premise_is_there _ e)
+returns-then-not-branch-clause-all_clauses c = λ e. absurd (Some≢None _ e)
 
 pub returns-then-not-branch-clause-all_results : goal.returns-then-not-branch-clause-all_results
-returns-then-not-branch-clause-all_results c = λ e. absurd (premise_is_there _ e)
+returns-then-not-branch-clause-all_results c = λ e. absurd (Some≢None _ e)
 
 pub returns-then-not-branch-clause-root : goal.returns-then-not-branch-clause-root
 returns-then-not-branch-clause-root c = λ _ _. c.in_ok-insert.ensures.root c.if-not-branch.true
@@ -186,13 +186,13 @@ pub returns-in_err-insert-2-clause-all_results : goal.returns-in_err-insert-2-cl
 returns-in_err-insert-2-clause-all_results c = IfOk-from_err c.from_residual-in_err-insert-2.result _ c.from_residual-in_err-insert-2.ensures.0
 
 pub returns-then-not-branch-2-clause-included : goal.returns-then-not-branch-2-clause-included
-returns-then-not-branch-2-clause-included c = λ e. absurd (premise_is_there _ e)
+returns-then-not-branch-2-clause-included c = λ e. absurd (Some≢None _ e)
 
 pub returns-then-not-branch-2-clause-all_clauses : goal.returns-then-not-branch-2-clause-all_clauses
-returns-then-not-branch-2-clause-all_clauses c = λ e. absurd (premise_is_there _ e)
+returns-then-not-branch-2-clause-all_clauses c = λ e. absurd (Some≢None _ e)
 
 pub returns-then-not-branch-2-clause-all_results : goal.returns-then-not-branch-2-clause-all_results
-returns-then-not-branch-2-clause-all_results c = λ e. absurd (premise_is_there _ e)
+returns-then-not-branch-2-clause-all_results c = λ e. absurd (Some≢None _ e)
 
 pub returns-then-not-branch-2-clause-root : goal.returns-then-not-branch-2-clause-root
 returns-then-not-branch-2-clause-root c = λ _ _. c.in_ok-insert-2.ensures.root c.if-not-branch-2.true
@@ -206,13 +206,13 @@ loop-self-2-init c =
     record { learner = i.learner; same = i.same; more_clauses = i.more_clauses; more_results = i.more_results; whole = omega (arith, c.loop-self-test.false, c.len.ensures) }
 
 pub returns-clause-there : goal.returns-clause-there
-returns-clause-there c = λ premise e. absurd (premise_is_there premise (sym e))
+returns-clause-there c = λ premise e. absurd (Some≢None premise (sym e))
 
 pub returns-clause-falsified : goal.returns-clause-falsified
-returns-clause-falsified c = λ premise clause e _. absurd (premise_is_there premise (sym e))
+returns-clause-falsified c = λ premise clause e _. absurd (Some≢None premise (sym e))
 
 pub returns-clause-root : goal.returns-clause-root
-returns-clause-root c = λ premise e. absurd (premise_is_there premise (sym e))
+returns-clause-root c = λ premise e. absurd (Some≢None premise (sym e))
 
 pub returns-clause-all_clauses : goal.returns-clause-all_clauses
 returns-clause-all_clauses c = λ _. omega (arith, c.loop-self-2.invariant.whole, c.loop-self-2.invariant.learner.clauses_made)

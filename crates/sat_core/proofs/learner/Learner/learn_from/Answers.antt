@@ -13,7 +13,8 @@ use Rattle.sat_core.proofs.LearnerLaws.{learned_open, Grew-same, Grew-trans}
 use Rattle.sat_core.proofs.LearnerSteps.{learner_kept, Includes-same}
 use Rattle.sat_core.proofs.SpentLaws.{spent_of, spent_same, spent_answer}
 use Rattle.sat_core.proofs.WithinLaws.{within_open, within_refuted, within_learned, unsat_answer}
-use Rattle.sat_core.proofs.PremiseLaws.{conflict_there, conflict_false, no_level, answer_is_there}
+use Rattle.sat_core.proofs.PremiseLaws.{conflict_there, conflict_false, Some≢None}
+use Rattle.std.proofs.lemmas.List.{nil_from_length}
 use Rattle.std.proofs.lemmas.Result.{IfOk-from_err}
 use Rattle.std.proofs.lemmas.Option.{slice_get-get_or, slice_get_within}
 use Rattle.sat_core.proofs.learner.Learner.learn_from.Goals as goal
@@ -185,7 +186,7 @@ pub refute-requires-clause-falsified : goal.refute-requires-clause-falsified
 refute-requires-clause-falsified c = let s = c.args.self.now in λ clause. conflict_false s.clauses (results s.log) s.names.items s.propagator.clauses.items s.propagator.trail c.args.conflict c.index-premise.result.now clause c.requires.learner.ready.named c.requires.conflict (let inside = slice_get_within s.propagator.clauses.items c.args.conflict c.requires.conflict.watched c.requires.conflict.there in slice_get-get_or s.names.items c.args.conflict c.index-premise.result.now (omega (arith, inside, c.requires.learner.ready.names_made)) ∙ ap Some (sym c.index-premise.ensures))
 
 pub refute-requires-clause-root : goal.refute-requires-clause-root
-refute-requires-clause-root c = no_level c.args.self.now.propagator.trail.starts (omega (arith, c.levels.ensures.number, c.if-levels-eq0.true))
+refute-requires-clause-root c = nil_from_length c.args.self.now.propagator.trail.starts (omega (arith, c.levels.ensures.number, c.if-levels-eq0.true))
 
 pub returns-in_err-refute-clause-open : goal.returns-in_err-refute-clause-open
 returns-in_err-refute-clause-open c = IfOk-from_err c.from_residual.result _ c.from_residual.ensures.0
@@ -260,22 +261,22 @@ pub returns-clause-inserted_results : goal.returns-clause-inserted_results
 returns-clause-inserted_results c = c.learn.ensures.inserted_results ∙ c.analysed.ensures.inserted_results
 
 pub returns-then-levels-eq0-clause-open : goal.returns-then-levels-eq0-clause-open
-returns-then-levels-eq0-clause-open c = λ e. absurd (answer_is_there _ e)
+returns-then-levels-eq0-clause-open c = λ e. absurd (Some≢None _ e)
 
 pub returns-then-levels-eq0-clause-longer : goal.returns-then-levels-eq0-clause-longer
-returns-then-levels-eq0-clause-longer c = λ e. absurd (answer_is_there _ e)
+returns-then-levels-eq0-clause-longer c = λ e. absurd (Some≢None _ e)
 
 pub returns-then-conflicts-budget-clause-open : goal.returns-then-conflicts-budget-clause-open
-returns-then-conflicts-budget-clause-open c = λ e. absurd (answer_is_there _ e)
+returns-then-conflicts-budget-clause-open c = λ e. absurd (Some≢None _ e)
 
 pub returns-then-conflicts-budget-clause-longer : goal.returns-then-conflicts-budget-clause-longer
-returns-then-conflicts-budget-clause-longer c = λ e. absurd (answer_is_there _ e)
+returns-then-conflicts-budget-clause-longer c = λ e. absurd (Some≢None _ e)
 
 pub returns-then-levels-eq0-clause-log : goal.returns-then-levels-eq0-clause-log
 returns-then-levels-eq0-clause-log c = λ _ other. absurd (other refl)
 
 pub returns-clause-answer : goal.returns-clause-answer
-returns-clause-answer c = λ answer e. absurd (answer_is_there answer (sym e))
+returns-clause-answer c = λ answer e. absurd (Some≢None answer (sym e))
 
 pub back_to-requires : goal.back_to-requires
 back_to-requires c = record { right = c.analysed.ensures.learner.ready.right }
