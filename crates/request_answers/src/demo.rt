@@ -80,7 +80,9 @@ fn is_accepted(alloc: Global, problem: &Problem, bytes: &[u8]) -> Result<bool, A
     ensures refused { IfOk result (λ is. is ≡ false → IsAcceptedText Allowed problem.now bytes.now → ⊥) }
 {
     let answer = check_bytes(alloc, problem, bytes, Cuts::Allowed);
-    match verdict(&answer) {
+    let verdict = verdict(&answer);
+    drop(answer);
+    match verdict {
         Some(is) => Ok(is),
         None => Err(AllocError),
     }
@@ -106,15 +108,13 @@ fn checked(
     else {
         return Ok(answer);
     };
-    let done = Answer::DemoDone {
-        claim: *claim,
-        commands: *commands,
-    };
-    let bytes = report(alloc, name, &answer)?;
+    let (claim, commands) = (*claim, *commands);
+    let bytes = report(alloc, name, &answer);
     // The refutation is let go before its text is read.
     drop(answer);
+    let bytes = bytes?;
     if is_accepted(alloc, problem, bytes.as_slice())? {
-        Ok(done)
+        Ok(Answer::DemoDone { claim, commands })
     } else {
         unreachable!()
     }

@@ -99,6 +99,11 @@ impl Case {
         Ok(())
     }
 
+    fn add_byte(&mut self, byte: u8) -> anyhow::Result<()> {
+        self.open()?.push(byte)?;
+        Ok(())
+    }
+
     /// Adds the text behind a number so many times.
     fn fill(&mut self, rest: &str) -> anyhow::Result<()> {
         let (times, text) = numbered(rest)?;
@@ -158,13 +163,20 @@ impl Case {
 
     fn read_word(&mut self, word: &str, rest: &str) -> anyhow::Result<()> {
         match word {
-            "file" => self.add_file(rest)?,
-            "word" => self.add_word(rest)?,
-            "fill" => self.fill(rest)?,
-            "lines" => self.add_lines(rest)?,
-            "byte" => self.open()?.push(rest.parse()?)?,
-            "reads" => self.reads.push(rest.parse()?)?,
-            "writes" => self.writes.push(rest.parse()?)?,
+            "file" => self.add_file(rest),
+            "word" => self.add_word(rest),
+            "fill" => self.fill(rest),
+            "lines" => self.add_lines(rest),
+            "byte" => self.add_byte(rest.parse()?),
+            "reads" => Ok(self.reads.push(rest.parse()?)?),
+            "writes" => Ok(self.writes.push(rest.parse()?)?),
+            _ => self.read_end(word, rest),
+        }
+    }
+
+    /// Takes a line that says how a call ends, or how much it may write.
+    fn read_end(&mut self, word: &str, rest: &str) -> anyhow::Result<()> {
+        match word {
             "room" => self.room = rest.parse()?,
             "status" => self.expect(Wanted::Report {
                 status: rest.parse()?,
@@ -172,14 +184,12 @@ impl Case {
             "front" => self.expect(Wanted::Front {
                 status: rest.parse()?,
             }),
-            "proof" => {
-                let problem = String::from_str(self.alloc, rest)?;
-                self.expect(Wanted::Proof { problem });
-            }
-            "start" => {
-                let problem = String::from_str(self.alloc, rest)?;
-                self.expect(Wanted::Start { problem });
-            }
+            "proof" => self.expect(Wanted::Proof {
+                problem: String::from_str(self.alloc, rest)?,
+            }),
+            "start" => self.expect(Wanted::Start {
+                problem: String::from_str(self.alloc, rest)?,
+            }),
             _ => bail!("a line begins with `{word}`"),
         }
         Ok(())

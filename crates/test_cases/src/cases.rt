@@ -1,7 +1,7 @@
 //! Cases from a text. A line that is empty or begins with `%` is passed over.
 
 use crate::case::Case;
-use anyhow::Context;
+use anyhow::{Context, bail};
 use std::alloc::Global;
 
 /// Cases over the same files, beside those of each.
@@ -31,24 +31,28 @@ impl Group {
     }
 }
 
-/// The groups of a text. One begins with the line `common`.
+/// Takes a line: the line `common` begins a group, and each other one is one of the last group.
+fn read_line(alloc: Global, groups: &mut Vec<Group>, line: &str) -> anyhow::Result<()> {
+    if line.is_empty() || line.starts_with('%') {
+        return Ok(());
+    }
+    if line == "common" {
+        groups.push(Group::new(alloc)?)?;
+        return Ok(());
+    }
+    match groups.last_mut() {
+        Some(group) => group.read_line(alloc, line),
+        None => bail!("a line stands before a group"),
+    }
+}
+
+/// The groups of a text.
 pub fn groups(alloc: Global, text: &str) -> anyhow::Result<Vec<Group>> {
     let mut groups = Vec::new(alloc);
-    let mut group = Group::new(alloc)?;
+    groups.push(Group::new(alloc)?)?;
     for (i, line) in text.split('\n').enumerate() {
-        if line.is_empty() || line.starts_with('%') {
-            continue;
-        }
-        if line == "common" {
-            groups.push(group)?;
-            group = Group::new(alloc)?;
-            continue;
-        }
         let number = i.saturating_add(1);
-        group
-            .read_line(alloc, line)
-            .context(format_args!("line {number}"))?;
+        read_line(alloc, &mut groups, line).context(format_args!("line {number}"))?;
     }
-    groups.push(group)?;
     Ok(groups)
 }

@@ -8,12 +8,24 @@ use satallax_top::{Outcome, Words, satallax};
 use std::alloc::Global;
 use std::str;
 
+/// Adds the files of a case and the common ones.
+fn list_files(list: &mut FileList, common: &Case, case: &Case) -> anyhow::Result<()> {
+    case.list_files(list)?;
+    common.list_files(list)
+}
+
 /// The files of a case and the common ones, of which some calls fail.
-fn files(alloc: Global, common: &Case, case: &Case, fails: CallList) -> anyhow::Result<MemFiles> {
+fn files(alloc: Global, common: &Case, case: &Case, fails: &[u64]) -> anyhow::Result<MemFiles> {
     let mut list = FileList::new(alloc);
-    case.list_files(&mut list)?;
-    common.list_files(&mut list)?;
+    list_files(&mut list, common, case)?;
+    let fails = call_list(alloc, fails)?;
     Ok(MemFiles::new(list, fails))
+}
+
+/// A sink with the room of a case, of which some calls fail.
+fn sink(alloc: Global, case: &Case, fails: &[u64]) -> anyhow::Result<MemSink> {
+    let fails = call_list(alloc, fails)?;
+    Ok(MemSink::new(alloc, case.room, fails)?)
 }
 
 fn words(alloc: Global, case: &Case) -> anyhow::Result<Words> {
@@ -40,9 +52,10 @@ impl Ended {
 }
 
 fn call(alloc: Global, common: &Case, case: &Case) -> anyhow::Result<Ended> {
-    let mut files = files(alloc, common, case, call_list(alloc, &case.reads)?)?;
-    let mut out = MemSink::new(alloc, case.room, call_list(alloc, &case.writes)?)?;
-    let ended = satallax(alloc, &words(alloc, case)?, &mut files, &mut out);
+    let words = words(alloc, case)?;
+    let mut out = sink(alloc, case, &case.writes)?;
+    let mut files = files(alloc, common, case, &case.reads)?;
+    let ended = satallax(alloc, &words, &mut files, &mut out);
     Ok(Ended {
         status: u64::from(ended.status()),
         out,
@@ -74,6 +87,28 @@ fn call_difference(
 /// The name under which a report is read again.
 const REPORT: &str = "the report";
 
+/// The files of a case and the common ones behind a report.
+fn report_files(
+    alloc: Global,
+    common: &Case,
+    case: &Case,
+    report: &[u8],
+) -> anyhow::Result<MemFiles> {
+    let mut list = FileList::new(alloc);
+    list.push(REPORT, report)?;
+    list_files(&mut list, common, case)?;
+    Ok(MemFiles::new(list, CallList::new(alloc)))
+}
+
+/// The words that have the report checked for the problem in a file.
+fn check_words(alloc: Global, problem: &str) -> anyhow::Result<Words> {
+    let mut words = Words::new(alloc);
+    for word in ["--check", REPORT, problem] {
+        words.push(word)?;
+    }
+    Ok(words)
+}
+
 /// Whether a report holds a refutation that the program accepts for the problem in a file of the case.
 fn is_accepted(
     alloc: Global,
@@ -82,16 +117,9 @@ fn is_accepted(
     report: &[u8],
     problem: &str,
 ) -> anyhow::Result<bool> {
-    let mut list = FileList::new(alloc);
-    list.push(REPORT, report)?;
-    case.list_files(&mut list)?;
-    common.list_files(&mut list)?;
-    let mut files = MemFiles::new(list, CallList::new(alloc));
-    let mut words = Words::new(alloc);
-    words.push("--check")?;
-    words.push(REPORT)?;
-    words.push(problem)?;
-    let mut out = MemSink::new(alloc, case.room, CallList::new(alloc))?;
+    let words = check_words(alloc, problem)?;
+    let mut out = sink(alloc, case, &[])?;
+    let mut files = report_files(alloc, common, case, report)?;
     let ended = satallax(alloc, &words, &mut files, &mut out);
     Ok(matches!(ended, Outcome::Accepted))
 }
@@ -112,6 +140,22 @@ fn proof_difference(
     ended.told(alloc)
 }
 
+/// A line with the text of a start, or with why there is none.
+fn start_line(alloc: Global, start: anyhow::Result<String>) -> anyhow::Result<String> {
+    match start {
+        Ok(text) => Ok(format!(in alloc; "{text}\n")?),
+        Err(error) => Ok(format!(in alloc; "{error}\n")?),
+    }
+}
+
+/// A line with the literals of a problem's start, or with why there are none.
+fn start_told(alloc: Global, common: &Case, case: &Case, problem: &str) -> anyhow::Result<String> {
+    let mut files = files(alloc, common, case, &[])?;
+    let start = start_text(alloc, &mut files, problem);
+    drop(files);
+    start_line(alloc, start)
+}
+
 /// The literals of a problem's start, where they are others than they are to be.
 fn start_difference(
     alloc: Global,
@@ -119,11 +163,7 @@ fn start_difference(
     case: &Case,
     problem: &str,
 ) -> anyhow::Result<Option<String>> {
-    let mut files = files(alloc, common, case, CallList::new(alloc))?;
-    let told = match start_text(alloc, &mut files, problem) {
-        Ok(text) => format!(in alloc; "{text}\n")?,
-        Err(error) => format!(in alloc; "{error}\n")?,
-    };
+    let told = start_told(alloc, common, case, problem)?;
     if told.as_bytes() == case.text.as_slice() {
         return Ok(None);
     }

@@ -67,11 +67,21 @@ fn write(
     }
 }
 
+/// Writes the refutation of the branch, which begins with falsity.
+fn write_closed(
+    alloc: Global,
+    sig: &Signature,
+    branch: &Lits,
+    sink: &mut GrowSink,
+) -> anyhow::Result<()> {
+    let refutation = refutation(alloc, branch.try_clone(alloc)?)?;
+    write(alloc, sig, branch, &refutation, sink)
+}
+
 /// The text of the refutation of the branch, which begins with falsity.
 fn branch_text(alloc: Global, sig: &Signature, branch: &Lits) -> anyhow::Result<String> {
-    let refutation = refutation(alloc, branch.try_clone(alloc)?)?;
     let mut sink = GrowSink::new(alloc);
-    write(alloc, sig, branch, &refutation, &mut sink)?;
+    write_closed(alloc, sig, branch, &mut sink)?;
     Ok(String::from_str(alloc, str::from_utf8(sink.bytes())?)?)
 }
 

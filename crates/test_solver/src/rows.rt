@@ -150,5 +150,7 @@ fn write_each(alloc: Global, problem: &mut Problem, out: &mut String) -> Result<
 /// Adds how many problems are answered as they should be.
 pub fn write_answers(alloc: Global, out: &mut String) -> Result<(), AllocError> {
     let mut problem = Problem::new(alloc);
-    write_each(alloc, &mut problem, out)
+    let written = write_each(alloc, &mut problem, out);
+    drop(problem);
+    written
 }

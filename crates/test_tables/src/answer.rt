@@ -68,6 +68,21 @@ fn write_instances(
     write_each(tables, uses.as_slice(), out)
 }
 
+/// Adds the number of the literal of a formula.
+fn write_literal(
+    alloc: Global,
+    tables: &mut Tables,
+    word: &str,
+    out: &mut String,
+) -> Result<(), RowRefused>
+    requires { AreSoundTables tables.old }
+    ensures { AreSoundTables tables.new }
+{
+    let lit = tables.literal(word)?;
+    out.push_str(if lit.positive { " +" } else { " -" })?;
+    Ok(write_number(alloc, lit.var.0, out)?)
+}
+
 /// Adds the numbers of the literals of formulas.
 fn write_numbers(
     alloc: Global,
@@ -79,9 +94,7 @@ fn write_numbers(
 {
     out.push_str(" =")?;
     for word in words.split(' ') {
-        let lit = tables.literal(word)?;
-        out.push_str(if lit.positive { " +" } else { " -" })?;
-        write_number(alloc, lit.var.0, out)?;
+        write_literal(alloc, tables, word, out)?;
     }
     Ok(())
 }
@@ -179,7 +192,9 @@ fn write_answer(
 fn write_asked(alloc: Global, line: &str, out: &mut String) -> Result<(), RowRefused> {
     let sig = signature(alloc)?;
     let mut tables = Tables::new(alloc, sig);
-    write_answer(alloc, &mut tables, line, out)
+    let written = write_answer(alloc, &mut tables, line, out);
+    drop(tables);
+    written
 }
 
 /// The line, and behind it what the tables answer.

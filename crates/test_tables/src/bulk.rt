@@ -58,15 +58,28 @@ impl Draws {
     }
 }
 
-/// How many clauses so many confrontations give.
-pub fn clauses_of(alloc: Global, count: usize) -> Result<usize, AllocError> {
+/// Adds the clauses of so many confrontations.
+fn add_confrontations(
+    alloc: Global,
+    steps: &mut StepTable,
+    count: usize,
+) -> Result<(), AllocError> {
     let mut draws = Draws { state: 7 };
-    let mut steps = StepTable::new(alloc);
     for _ in 0..count {
         let instance = draws.confrontation(alloc)?;
         steps.add(instance)?;
     }
-    Ok(steps.len())
+    Ok(())
+}
+
+/// How many clauses so many confrontations give.
+pub fn clauses_of(alloc: Global, count: usize) -> Result<usize, AllocError> {
+    let mut steps = StepTable::new(alloc);
+    let added = add_confrontations(alloc, &mut steps, count);
+    let clauses = steps.len();
+    drop(steps);
+    added?;
+    Ok(clauses)
 }
 
 /// Between two texts the term of a number: its bits are added up to `c`, the lowest one first.
