@@ -138,7 +138,9 @@ fn run_by<W: Weigher<Waiting> + Copy, V: Weigher<Turn>>(
     ensures { IfOk result (EndsBy (unfolded_problem problem.now) blocks.now) }
 {
     let prepared = Prepared::new(alloc, problem)?;
-    run_prepared(alloc, problem, &prepared, blocks, weighers, turns)
+    let scheduled = run_prepared(alloc, problem, &prepared, blocks, weighers, turns);
+    drop(prepared);
+    scheduled
 }
 
 /// Runs the schedule of the blocks over a problem, whose definitions are unfolded. The problem's types nest so little that each refutation

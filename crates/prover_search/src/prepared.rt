@@ -77,8 +77,13 @@ impl Prepared {
         ensures { IfOk result (λ prepared. IsPreparedFor (unfolded_problem problem.now) prepared.basis prepared.start.items) }
     {
         let mut basis = new_basis(alloc, &problem.signature)?;
-        let start = number_start(alloc, &mut basis, problem)?;
-        Ok(Prepared { basis, start })
+        match number_start(alloc, &mut basis, problem) {
+            Ok(start) => Ok(Prepared { basis, start }),
+            Err(AllocError) => {
+                drop(basis);
+                Err(AllocError)
+            }
+        }
     }
 
     /// A copy, with which a further search may begin.

@@ -89,7 +89,13 @@ impl<W: Weigher<Waiting>> Search<W> {
         ensures done { IfOk result (λ s. s.core.tables.done ≡ 0) }
         ensures ready { IfOk result (λ s. s.is_refused ≡ false) }
     {
-        let offers = start_offers(alloc, mode, &prepared.basis, prepared.start.as_slice())?;
+        let offers = match start_offers(alloc, mode, &prepared.basis, prepared.start.as_slice()) {
+            Ok(offers) => offers,
+            Err(AllocError) => {
+                drop(prepared);
+                return Err(AllocError);
+            }
+        };
         let Prepared { basis, start } = prepared;
         let mut core = Core::new(alloc, basis, offers, *mode, weigher)?;
         match start_all(&mut core, start.as_slice()) {

@@ -1,6 +1,7 @@
 //! The terms that stand for connectives and quantifiers.
 
 ghost use Rattle.std.specs.Prelude.{◌≡◌, IfOk};
+ghost use Rattle.stt_core.specs.Lambda as lambda;
 ghost use Rattle.stt_core.specs.View.{the_type, the_term};
 ghost use Rattle.type_check.specs.Rows as defined;
 
@@ -27,6 +28,22 @@ pub(crate) fn truth_value(alloc: Global, value: bool) -> Result<Term, AllocError
     }
 }
 
+/// That one formula implies that the other fails.
+fn nand(alloc: Global, s: Term, t: Term) -> Result<Term, AllocError>
+    ensures { IfOk result (λ r. the_term r ≡ lambda.imp (the_term s) (lambda.neg (the_term t))) }
+{
+    let not = neg(alloc, t)?;
+    imp(alloc, s, not)
+}
+
+/// That one formula holds where the other fails.
+fn or(alloc: Global, s: Term, t: Term) -> Result<Term, AllocError>
+    ensures { IfOk result (λ r. the_term r ≡ lambda.imp (lambda.neg (the_term s)) (the_term t)) }
+{
+    let not = neg(alloc, s)?;
+    imp(alloc, not, t)
+}
+
 /// Two formulas that are joined by a connective.
 pub(crate) fn join(alloc: Global, conn: Conn, s: Term, t: Term) -> Result<Term, AllocError>
     ensures { IfOk result (λ r. the_term r ≡ defined.join conn (the_term s) (the_term t)) }
@@ -34,14 +51,10 @@ pub(crate) fn join(alloc: Global, conn: Conn, s: Term, t: Term) -> Result<Term, 
     match conn {
         Conn::Not => neg(alloc, t),
         Conn::And => {
-            let not = neg(alloc, t)?;
-            let denied = imp(alloc, s, not)?;
+            let denied = nand(alloc, s, t)?;
             neg(alloc, denied)
         }
-        Conn::Or => {
-            let not = neg(alloc, s)?;
-            imp(alloc, not, t)
-        }
+        Conn::Or => or(alloc, s, t),
         Conn::Imp => imp(alloc, s, t),
         Conn::If => imp(alloc, t, s),
         Conn::Iff => eq(alloc, Ty::Base(0), s, t),
@@ -50,14 +63,10 @@ pub(crate) fn join(alloc: Global, conn: Conn, s: Term, t: Term) -> Result<Term, 
             neg(alloc, same)
         }
         Conn::Nor => {
-            let not = neg(alloc, s)?;
-            let either = imp(alloc, not, t)?;
+            let either = or(alloc, s, t)?;
             neg(alloc, either)
         }
-        Conn::Nand => {
-            let not = neg(alloc, t)?;
-            imp(alloc, s, not)
-        }
+        Conn::Nand => nand(alloc, s, t),
     }
 }
 

@@ -4,9 +4,9 @@ use Rattle.delta_defs.specs.Unfolding.{unfolded_problem}
 use Rattle.prover_search.proofs.PreparedLaws.{prepared-grown}
 use Rattle.prover_search.proofs.prepared.Prepared.new.Goals as goal
 
-pub returns : goal.returns
-returns c =
+pub returns-in-Ok : goal.returns-in-Ok
+returns-in-Ok c =
     let made = c.in_ok-basis.ensures in
-    let e = c.in_ok-start.ensures in
-    prepared-grown (unfolded_problem c.args.problem.now) c.in_ok-basis.basis c.number_start.new.basis c.in_ok-start.start.items e.grows e.good
+    let e = c.in-Ok.ensures in
+    prepared-grown (unfolded_problem c.args.problem.now) c.in_ok-basis.basis c.number_start.new.basis c.in-Ok.start.items e.grows e.good
     (made.bases ∙ ap (λ (p : PlainProblem). p.declared.bases) c.problem.view_is) (made.consts ∙ ap (λ (p : PlainProblem). p.declared.consts) c.problem.view_is) made.unwitnessed e.numbers

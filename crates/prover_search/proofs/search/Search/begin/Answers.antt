@@ -28,8 +28,8 @@ start_all-requires-clause-state g c =
     let made = c.in_ok-core.ensures in
     made.state ∙ ap (λ (o : HeadOffers). record nothing_yet { offers = o }) (sym (ap (λ (s : State). s.offers) made.state))
 
-pub returns-in-Ok-clause-under_way : goal.returns-in-Ok-clause-under_way
-returns-in-Ok-clause-under_way g c =
+pub returns-in-Ok-start_all-clause-under_way : goal.returns-in-Ok-start_all-clause-under_way
+returns-in-Ok-start_all-clause-under_way g c =
     let p = unfolded_problem c.args.problem.now in
     let typed = keeps_types c.args.problem.now c.requires.typed in
     let modest = unfolding-keeps 1024 c.args.problem.now c.requires.modest in
@@ -45,15 +45,15 @@ returns-in-Ok-clause-under_way g c =
     ∙ ap without_repeats prepared.numbers.literals in
     let offered : the_offers core.tables.offers ≡ offered_heads core.plan.rule.mode (without_witnesses core.tables.basis.bank) (filter is_shallow_literal (start p)) =
     ap (λ (s : State). s.offers) made.state
-    ∙ c.in_ok-offers.ensures
+    ∙ c.in-Ok.ensures
     ∙ ap (λ ls. offered_heads c.args.mode.now (without_witnesses c.args.prepared.basis.bank) (filter is_shallow_literal (without_repeats (map (bank_literal c.args.prepared.basis.bank.terms c.args.prepared.basis.lits) ls)))) c.as_slice.ensures.value
     ∙ ap (λ ls. offered_heads c.args.mode.now (without_witnesses c.args.prepared.basis.bank) (filter is_shallow_literal (without_repeats ls))) prepared.numbers.literals
     ∙ ap₂ (λ (m : Mode) (b : Basis). offered_heads m (without_witnesses b.bank) (filter is_shallow_literal (start p))) (sym made.mode) (sym made.basis) in
     let S : List Literal → Type 0 = λ ls. IsStarting core.tables core.plan new.tables new.plan ls in
     record {
-      mode = ap (λ (d : Delays). d.mode) c.in-Ok.ensures.rule ∙ made.mode;
+      mode = ap (λ (d : Delays). d.mode) c.in-Ok-start_all.ensures.rule ∙ made.mode;
       running =
-          running-start core.tables core.plan new.tables new.plan (start p) (subst S begins c.in-Ok.ensures)
+          running-start core.tables core.plan new.tables new.plan (start p) (subst S begins c.in-Ok-start_all.ensures)
           (scope-declared p typed core.tables.basis.bank bases consts)
           (start-declared p typed core.tables.basis.bank bases consts)
           (names-modest p typed core.tables.basis.bank bases consts modest)
