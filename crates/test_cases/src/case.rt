@@ -170,14 +170,20 @@ impl Case {
             "byte" => self.add_byte(rest.parse()?),
             "reads" => Ok(self.reads.push(rest.parse()?)?),
             "writes" => Ok(self.writes.push(rest.parse()?)?),
+            "room" => self.read_room(rest),
             _ => self.read_end(word, rest),
         }
     }
 
-    /// Takes a line that says how a call ends, or how much it may write.
+    /// Takes a line that says how much a call may write.
+    fn read_room(&mut self, rest: &str) -> anyhow::Result<()> {
+        self.room = rest.parse()?;
+        Ok(())
+    }
+
+    /// Takes a line that says how a call ends.
     fn read_end(&mut self, word: &str, rest: &str) -> anyhow::Result<()> {
         match word {
-            "room" => self.room = rest.parse()?,
             "status" => self.expect(Wanted::Report {
                 status: rest.parse()?,
             }),

@@ -16,7 +16,9 @@ struct Session {
 /// The answer to the clauses of a text, and how many were learned.
 pub fn report(alloc: Global, text: &str) -> Result<String, AllocError> {
     let mut session = Session::new(alloc);
-    session.report(text)
+    let report = session.report(text);
+    drop(session);
+    report
 }
 
 impl Session {

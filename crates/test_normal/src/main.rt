@@ -7,18 +7,31 @@ mod answer;
 mod notation;
 mod scope;
 
+ghost use Rattle.std.specs.Prelude.{length};
+ghost use Rattle.stt_core.specs.Typing.{IsScope, AreDeclared};
+ghost use Rattle.stt_core.specs.ScopeView.{the_scope};
+
 use answer::answer;
 use scope::{signature, variable_types, witness_types};
+use stt_core::{Signature, Types};
+
+fn write_answers(rt: HostRuntime, sig: &Signature, wits: &Types, ctx: &Types) -> anyhow::Result<()>
+    requires declared { IsScope (the_scope sig.now wits.now) }
+    requires ctx_declared { AreDeclared (length sig.now.bases) ctx.now }
+{
+    let alloc = rt.alloc();
+    for line in rt.lines(alloc) {
+        let line = line?;
+        let text = answer(alloc, sig, wits, ctx, line.as_str())?;
+        println!(rt; "{text}")?;
+    }
+    Ok(())
+}
 
 fn main(rt: HostRuntime) -> anyhow::Result<()> {
     let alloc = rt.alloc();
     let sig = signature(alloc)?;
     let wits = witness_types(alloc)?;
     let ctx = variable_types(alloc)?;
-    for line in rt.lines(alloc) {
-        let line = line?;
-        let text = answer(alloc, &sig, &wits, &ctx, line.as_str())?;
-        println!(rt; "{text}")?;
-    }
-    Ok(())
+    write_answers(rt, &sig, &wits, &ctx)
 }

@@ -1,13 +1,13 @@
 //! What the terms are over.
 
-ghost use Rattle.std.specs.Prelude.{◌≡◌, [], ◌∷◌, IfOk};
+ghost use Rattle.std.specs.Prelude.{◌≡◌, [], ◌∷◌, map, IfOk, OnOk};
 ghost use Rattle.stt_core.specs.SimpleType.{base, arrow};
 ghost use Rattle.stt_core.specs.Typing.{IsScope};
 ghost use Rattle.stt_core.specs.View.{the_type};
 ghost use Rattle.stt_core.specs.ScopeView.{the_scope};
 
 use std::alloc::{AllocError, Global};
-use stt_core::{Signature, Ty, Types};
+use stt_core::{Consts, Signature, Ty, Types};
 
 /// `i > i`
 fn endo(alloc: Global) -> Result<Ty, AllocError>
@@ -35,16 +35,23 @@ pub fn variable_types(alloc: Global) -> Result<Types, AllocError>
     Ok(types)
 }
 
+fn declare(alloc: Global, consts: &mut Consts) -> Result<(), AllocError>
+    requires { consts.old ≡ [] }
+    ensures { OnOk result (map (λ c. c.type) consts.new ≡ base 1 ∷ arrow (base 1) (base 1) ∷ arrow (arrow (base 1) (base 1)) (base 1)
+        ∷ arrow (base 1) (arrow (base 1) (base 1)) ∷ []) }
+{
+    consts.push(b"c", Ty::Base(1))?;
+    consts.push(b"d", endo(alloc)?)?;
+    consts.push(b"f", Ty::function(alloc, endo(alloc)?, Ty::Base(1))?)?;
+    consts.push(b"g", Ty::function(alloc, Ty::Base(1), endo(alloc)?)?)?;
+    Ok(())
+}
+
 /// The constants.
 pub fn signature(alloc: Global) -> Result<Signature, AllocError>
     ensures { IfOk result (λ sig. IsScope (the_scope sig (base 1 ∷ []))) }
 {
     let mut sig = Signature::new(alloc);
-    sig.consts.push(b"c", Ty::Base(1))?;
-    sig.consts.push(b"d", endo(alloc)?)?;
-    sig.consts
-        .push(b"f", Ty::function(alloc, endo(alloc)?, Ty::Base(1))?)?;
-    sig.consts
-        .push(b"g", Ty::function(alloc, Ty::Base(1), endo(alloc)?)?)?;
+    declare(alloc, &mut sig.consts)?;
     Ok(sig)
 }
