@@ -17,3 +17,4 @@ pub mod RowLaws
 pub mod TypedProcessing
 pub mod TypedRun
 pub mod TypedCommands
+pub mod StandardLaws

@@ -13,7 +13,9 @@ use Rattle.search_spec.specs.Unsatisfiable.{Unsatisfiable}
 use Rattle.tableau_calculus.specs.Kinds.{formulas}
 use Rattle.search_spec.specs.Numbered.{numbers, literal_at, IsNumber, AreApart}
 use Rattle.search_spec.specs.Closed.{is_closed}
+use Rattle.mode_file.specs.declared.Mode.{Mode}
 use Rattle.search_spec.specs.State.{State, Setting}
+use Rattle.search_spec.specs.Standard.{IsPlainMode, SearchesPlainly}
 use Rattle.search_spec.specs.After.{state_after}
 use Rattle.search_spec.specs.TypedState.{IsTypedState}
 use Rattle.search_spec.specs.Result.{Result, IsResult}
@@ -62,3 +64,7 @@ abbrev pub StatesAreTyped : Type 0
 StatesAreTyped =
     (setting : Setting) → IsScope setting.scope → (start : List Literal) → IsBranch (with_rows setting.scope []) start
     → (n : ℕ) (s : State) → state_after setting start n ≡ Some s → IsTypedState setting s
+
+-- at their standard numbers the keys of this project's own change nothing
+abbrev pub StandardKeysChangeNothing : Type 0
+StandardKeysChangeNothing = (mode : Mode) → IsPlainMode mode → SearchesPlainly mode

@@ -31,6 +31,7 @@ pub mod Spine
 pub mod Instances
 pub mod Terms
 pub mod Offers
+pub mod Standard
 pub mod Preparing
 pub mod Partners
 pub mod Selections

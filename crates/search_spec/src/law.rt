@@ -1,5 +1,5 @@
 //! Laws of the definitions.
-ghost use Rattle.search_spec.specs.Laws.{ClosedTermsAreTold, ExamplesRun, NumberedClauses, NumberedInstances, NumberedUnsatisfiable, RunsEndOneWay, StatesAreTyped};
+ghost use Rattle.search_spec.specs.Laws.{ClosedTermsAreTold, ExamplesRun, NumberedClauses, NumberedInstances, NumberedUnsatisfiable, RunsEndOneWay, StandardKeysChangeNothing, StatesAreTyped};
 
 /// A term without free variables is told by a walk over it.
 pub fn closed_terms_are_told()
@@ -26,4 +26,9 @@ pub fn examples_run()
 /// Every state of a run is typed.
 pub fn states_are_typed()
     ensures { StatesAreTyped }
+{}
+
+/// At their standard numbers the keys of this project's own change nothing.
+pub fn standard_keys_change_nothing()
+    ensures { StandardKeysChangeNothing }
 {}

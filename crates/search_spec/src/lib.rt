@@ -6,5 +6,5 @@ mod law;
 
 pub use law::{
     closed_terms_are_told, examples_run, numbers_stand_for_formulas, runs_end_one_way,
-    states_are_typed,
+    standard_keys_change_nothing, states_are_typed,
 };
