@@ -1,7 +1,7 @@
 #!/usr/bin/env python3
 """Looks whether each link in the documents leads to a file of the repository, or to a heading of one, whether each crate has a README, and
-whether the tables of docs/TRUST.md are those that tools/reading_list makes of the sources. Needs no program. Ends with 1 where something is
-wrong."""
+whether the tables of docs/TRUST.md are those that tools/reading_list makes of the sources, and whether README names the number of lines that
+is computed there for the first claim. Needs no program. Ends with 1 where something is wrong."""
 import os, re, subprocess, sys
 top = os.path.dirname(os.path.dirname(os.path.realpath(__file__)))
 wrong = []
@@ -32,6 +32,11 @@ for crate in sorted(os.listdir(os.path.join(top, 'crates'))):
 command = [os.path.join(top, 'tools/reading_list'), '--check', os.path.join(top, 'docs/TRUST.md')]
 list_check = subprocess.run(command, stderr=subprocess.PIPE, text=True)
 if list_check.returncode: wrong.append(list_check.stderr.strip())
+trust = open(os.path.join(top, 'docs/TRUST.md'), encoding='utf-8').read()
+to_read = re.search(r'(?m)^\| +\| in all \| (\d+) \|$', trust)
+named = re.search(r'what to read: ([\d,]+) lines for the first', open(os.path.join(top, 'README.md'), encoding='utf-8').read())
+if not to_read or not named or named[1].replace(',', '') != to_read[1]:
+    wrong.append('README.md: %s lines to read for the first claim, and TRUST.md has %s' % (named and named[1], to_read and to_read[1]))
 for line in wrong: print(line)
 print('%d links, %d wrong' % (links, len(wrong)))
 sys.exit(1 if wrong else 0)
