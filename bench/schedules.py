@@ -4,8 +4,9 @@
     bench/schedules.py out/satallax [--each] [FILE..]
 
 FILE is a file of modes/, or standard; without one, standard and all of modes/. The goals are counted in two halves, each second one by
-name, so that what is chosen by one half can be looked at on the other. Commands are those of all runs together, proved or not. With --each,
-a line for each goal says after how many commands it is proved. Status 1 where a run ends in another way than proved, or by a limit."""
+name, so that what is chosen by one half can be looked at on the other. Commands are those of all their runs together, proved or not. Goals
+whose names begin with library_ include facts of bench/library: they belong to no half, and have a column of their own. With --each, a line
+for each goal says after how many commands it is proved. Status 1 where a run ends in another way than proved, or by a limit."""
 import subprocess
 import sys
 from pathlib import Path
@@ -29,14 +30,16 @@ def main() -> None:
     program, each = str(Path(sys.argv[1]).resolve()), "--each" in sys.argv
     files = [word for word in sys.argv[2:] if word != "--each"]
     files = files or ["standard", *sorted(str(path.relative_to(TOP)) for path in (TOP / "modes").iterdir() if path.suffix != ".md")]
-    goals, examples = (sorted((TOP / folder).glob("*.p")) for folder in ("bench/goals", "examples"))
-    print("| By | First half | Second half | All | Commands | Examples |\n|---|---|---|---|---|---|")
+    every, examples = (sorted((TOP / folder).glob("*.p")) for folder in ("bench/goals", "examples"))
+    library = [goal for goal in every if goal.name.startswith("library_")]
+    goals = [goal for goal in every if goal not in library]
+    print("| By | First half | Second half | All | Commands | Examples | Library |\n|---|---|---|---|---|---|---|")
     for by in files:
-        ends = [run(program, by, goal) for goal in goals]
+        ends, seen, large = ([run(program, by, goal) for goal in group] for group in (goals, examples, library))
         halves = [sum(proved for proved, _ in ends[half::2]) for half in (0, 1)]
-        seen = sum(proved for proved, _ in (run(program, by, example) for example in examples))
-        print(f"| `{by}` | {halves[0]} | {halves[1]} | {sum(halves)} | {sum(number for _, number in ends):,} | {seen} |", flush=True)
-        for goal, (proved, number) in zip(goals, ends):
+        few, many = (sum(proved for proved, _ in group) for group in (seen, large))
+        print(f"| `{by}` | {halves[0]} | {halves[1]} | {sum(halves)} | {sum(n for _, n in ends):,} | {few} | {many} |", flush=True)
+        for goal, (proved, number) in zip(goals + library, ends + large):
             if each:
                 print(f"    {goal.stem}: {number if proved else '-'}")
 
