@@ -32,7 +32,8 @@ class Corpus:
     def __init__(self) -> None:
         self.problems: list[tuple[list[bytes], dict[bytes, bytes]]] = []
         self.texts: list[tuple[list[bytes], dict[bytes, bytes]]] = []
-        included = {b"examples/weather.ax": (TOP / "examples" / "weather.ax").read_bytes()}
+        axioms = [TOP / "examples" / "weather.ax", *sorted((TOP / "bench" / "library").glob("*.ax"))]
+        included = {str(path.relative_to(TOP)).encode(): path.read_bytes() for path in axioms}
         for path in [*sorted((TOP / "examples").glob("*.p")), *sorted((TOP / "bench" / "goals").glob("*.p"))]:
             self.problems.append(([b"p.p"], {b"p.p": path.read_bytes(), **included}))
         for path in sorted((TOP / "crates" / "test_cases" / "data").glob("*.cases")):
