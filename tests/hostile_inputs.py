@@ -35,7 +35,8 @@ class Corpus:
         axioms = [TOP / "examples" / "weather.ax", *sorted((TOP / "bench" / "library").glob("*.ax"))]
         included = {str(path.relative_to(TOP)).encode(): path.read_bytes() for path in axioms}
         for path in [*sorted((TOP / "examples").glob("*.p")), *sorted((TOP / "bench" / "goals").glob("*.p"))]:
-            self.problems.append(([b"p.p"], {b"p.p": path.read_bytes(), **included}))
+            text = path.read_bytes()
+            self.problems.append(([b"p.p"], {b"p.p": text, **(included if b"include(" in text else {})}))
         for path in sorted((TOP / "crates" / "test_cases" / "data").glob("*.cases")):
             for case in cases(path):
                 words, files = [bytes(w) for w in case.words], {n.encode(): bytes(f) for n, f in case.files.items()}
@@ -46,7 +47,8 @@ class Corpus:
                         self.texts.append((words, files))
                 elif words[-1] in files:
                     self.problems.append((words, files))
-        self.tokens = [t for _, files in self.problems[:300] for t in TOKEN.findall(b"".join(files.values())) if t.strip() and len(t) < 20]
+        problems = {text for _, files in self.problems[:300] for text in files.values()}
+        self.tokens = [t for text in sorted(problems) for t in TOKEN.findall(text) if t.strip() and len(t) < 20]
         self.tokens += [b"?? @", b"!! @", b"@+", b"@-", b"^", b"(~)", b"(&)", b"$tType", b"include", b"'A b'", b"<~>", b"~|", b"~&"]
 
 
