@@ -1,6 +1,8 @@
 //! The refusals.
 ghost use Rattle.std.specs.Prelude.{List, ℕ};
 
+use thiserror::Error;
+
 /// Why a line is bad.
 #[derive(Clone, Copy)]
 pub(crate) enum Cause {
@@ -11,15 +13,19 @@ pub(crate) enum Cause {
 }
 
 /// The first bad line, counted from 1.
-#[derive(Clone, Copy, Debug, PartialEq, Eq)]
+#[derive(Clone, Copy, Debug, PartialEq, Eq, Error)]
 pub enum ModeRefused {
     /// Its first word isn't a key.
+    #[error("line {line}: there is no such key")]
     UnknownKey { line: u32 },
     /// A line before gives a number to its key.
+    #[error("line {line}: the key was given before")]
     Twice { line: u32 },
     /// Its key isn't followed by spaces, a number, any spaces, and at most one carriage return.
+    #[error("line {line}: the key isn't followed by a number alone")]
     BadNumber { line: u32 },
     /// Its number is above the greatest that the key takes.
+    #[error("line {line}: the number is above the greatest of its key")]
     OutOfRange { line: u32 },
 }
 

@@ -18,3 +18,4 @@ pub mod TypedProcessing
 pub mod TypedRun
 pub mod TypedCommands
 pub mod StandardLaws
+pub mod MatchingLaws

@@ -42,6 +42,7 @@ pub mod After
 pub mod Result
 pub mod TypedState
 pub mod Trace
+pub mod Matching
 pub mod Rows
 pub mod Laws
 pub mod Internal
