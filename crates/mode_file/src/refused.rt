@@ -19,13 +19,13 @@ pub enum ModeRefused {
     #[error("line {line}: there is no such key")]
     UnknownKey { line: u32 },
     /// A line before gives a number to its key.
-    #[error("line {line}: the key was given before")]
+    #[error("line {line}: its key has a number")]
     Twice { line: u32 },
     /// Its key isn't followed by spaces, a number, any spaces, and at most one carriage return.
-    #[error("line {line}: the key isn't followed by a number alone")]
+    #[error("line {line}: it has no number")]
     BadNumber { line: u32 },
     /// Its number is above the greatest that the key takes.
-    #[error("line {line}: the number is above the greatest of its key")]
+    #[error("line {line}: its number is out of range")]
     OutOfRange { line: u32 },
 }
 
