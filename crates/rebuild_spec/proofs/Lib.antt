@@ -18,3 +18,5 @@ pub mod BranchLaws
 pub mod SkipLaws
 pub mod PickedLaws
 pub mod UsedLines
+pub mod DistinctRows
+pub mod AlikeLaws

@@ -27,7 +27,7 @@ module _ (scope : Scope) (rows : List Row) (atoms : List Lambda) (at : SatLit �
   one_literal (p ∷ []) l e = (p, refl)
   one_literal (p ∷ q ∷ ps) l e = cc
 
-  two_literals : (ps : List SatLit) (l k : Literal) → literals_of atoms ps ≡ l ∷ k ∷ [] → (p : SatLit) × (q : SatLit) × (ps ≡ p ∷ q ∷ [])
+  pub two_literals : (ps : List SatLit) (l k : Literal) → literals_of atoms ps ≡ l ∷ k ∷ [] → (p : SatLit) × (q : SatLit) × (ps ≡ p ∷ q ∷ [])
   two_literals [] l k e = cc
   two_literals (p ∷ []) l k e = cc
   two_literals (p ∷ q ∷ []) l k e = (p, q, refl)
@@ -61,7 +61,7 @@ module _ (scope : Scope) (rows : List Row) where
 
   module _ (atoms : List Lambda) where
     -- principals stand at the places that are found for them
-    at_found : (branch principals : List SatLit) → ((l : SatLit) → holds principals l ≡ true → holds branch l ≡ true) → AreAt (literals_of atoms branch) (map (place_in branch) principals) (literals_of atoms principals)
+    pub at_found : (branch principals : List SatLit) → ((l : SatLit) → holds principals l ≡ true → holds branch l ≡ true) → AreAt (literals_of atoms branch) (map (place_in branch) principals) (literals_of atoms principals)
     at_found branch [] within = tt
     at_found branch (l ∷ principals) within = (
       slice_get-map (literal_at atoms) branch (place_in branch l) ∙ ap (option_map (literal_at atoms)) (place_found branch l (within l (or_left _ _ (same_literal-refl l)))),

@@ -74,14 +74,19 @@ module _ (scope : Scope) (rows : List Row) (atoms : List Lambda) where
   in_negations : (clause : List SatLit) (m : SatLit) → holds clause (negated m) ≡ true → holds (map negated clause) m ≡ true
   in_negations clause m h = subst (λ k. holds (map negated clause) k ≡ true) (negated-negated m) (held-negated clause (negated m) h)
 
+  -- the branch of the line of a clause of an instance holds the principals
+  pub principals_held : (c : List SatLit) (i : Instance) → IsClauseOf scope rows atoms c i → (m : SatLit) → holds i.principals m ≡ true → holds (map negated c) m ≡ true
+  principals_held c i h m held =
+      let by = clause_picked i.principals i.alternatives c h.is_one in
+      in_negations c m (subst (λ k. holds k (negated m) ≡ true) (sym by.is) (principal_denied i.principals by.picked m held))
+
   -- the line of a clause of an instance is right
   pub instance_right : (n : ℕ) (c : List SatLit) (i : Instance) → IsClauseOf scope rows atoms c i → HasRightLeaves (instance_line n c i)
   instance_right n c i h =
       let ls = map negated c in
       let by = clause_picked i.principals i.alternatives c h.is_one in
       let alternatives = map (literals_of atoms) i.alternatives in
-      let within = λ (m : SatLit) (held : holds i.principals m ≡ true). in_negations c m (subst (λ k. holds k (negated m) ≡ true) (sym by.is) (principal_denied i.principals by.picked m held)) in
-      let instance = instance_placed scope rows atoms ls i.principals i.rule alternatives h.fits within in
+      let instance = instance_placed scope rows atoms ls i.principals i.rule alternatives h.fits (principals_held c i h) in
       record {
         typed = fits_typed scope rows (rule_at_places i.rule (map (place_in ls) i.principals)) instance.principals alternatives instance.fits;
         alternatives = alternatives;

@@ -216,12 +216,12 @@ module _ (log : List LogEntry) where
   abbrev IsCountedLine : Tree → Type 0
   IsCountedLine t = IsCounted (made_at t)
 
-  abbrev IsUsedAt : Place → Type 0
+  abbrev pub IsUsedAt : Place → Type 0
   IsUsedAt (at_clause n) = IsUsed log (at_clause n)
   IsUsedAt (at_step n k) = IsUsed log (at_result n)
   IsUsedAt (at_result n) = IsUsed log (at_result n)
 
-  used_at : (p : Premise) → IsUsed log (premise_place p) → IsUsedAt (premise_place p)
+  pub used_at : (p : Premise) → IsUsed log (premise_place p) → IsUsedAt (premise_place p)
   used_at (Clause n) h = h
   used_at (Result n) h = h
 

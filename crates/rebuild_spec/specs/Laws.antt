@@ -10,15 +10,17 @@ use Rattle.sat_base.specs.declared.literal.SatLit.{SatLit}
 use Rattle.sat_base.specs.Literal.{negated}
 use Rattle.search_spec.specs.Clauses.{clause_of}
 use Rattle.tableau_calculus.specs.Kinds.{added}
-use Rattle.search_spec.specs.Numbered.{numbers}
+use Rattle.tableau_calculus.specs.Each.{Each}
+use Rattle.search_spec.specs.Numbered.{numbers, IsNumber, AreApart}
 use Rattle.sat_log.specs.declared.log.LogEntry.{LogEntry}
 use Rattle.sat_log.specs.Chains.{IsLogOver}
-use Rattle.rebuild_spec.specs.Input.{Instance, clause_in, Input}
-use Rattle.rebuild_spec.specs.Trees.{branch}
+use Rattle.rebuild_spec.specs.Input.{Instance, clause_by, clause_in, Input}
+use Rattle.rebuild_spec.specs.Trees.{at_clause, branch}
 use Rattle.rebuild_spec.specs.Stands.{instance_line}
 use Rattle.rebuild_spec.specs.Given.{IsGiven}
 use Rattle.rebuild_spec.specs.Rebuilt.{IsRebuilt}
-use Rattle.rebuild_spec.specs.Used.{AreFew, HasUsedLines}
+use Rattle.rebuild_spec.specs.Used.{IsUsed, AreFew, HasUsedLines}
+use Rattle.rebuild_spec.specs.Alike.{formula_clauses, StandOnce, IsUsedAlike}
 use Rattle.rebuild_spec.specs.Trimmed.{IsEachReached, IsFromSearch}
 
 -- the refutation is accepted
@@ -91,3 +93,22 @@ RebuiltHasUsed =
     → IsGiven scope start input
     → IsRebuilt input refutation
     → HasUsedLines input refutation.lines
+
+-- A refutation that is rebuilt from two inputs fixes which clauses of instances are used, and their instances: where the inputs have the
+-- same rows and the same clauses, none of which stands twice.
+abbrev pub RebuiltFixesInstances : Type 0
+RebuiltFixesInstances =
+    (scope : Scope) (start : List Literal) (input other : Input) (refutation : Refutation)
+    → IsGiven scope start input
+    → IsGiven scope start other
+    → input.rows ≡ other.rows
+    → formula_clauses input ≡ formula_clauses other
+    → StandOnce (formula_clauses input)
+    → AreApart input.atoms
+    → IsRebuilt input refutation
+    → IsRebuilt other refutation
+    → (n : ℕ) (clause : List SatLit) (i : Instance)
+    → slice_get input.clauses n ≡ Some (clause_by clause i)
+    → Each (IsNumber input.atoms) i.principals
+    → IsUsed input.log (at_clause n)
+    → IsUsedAlike input other n i

@@ -22,5 +22,6 @@ pub mod Rebuilt
 pub mod Given
 pub mod Trimmed
 pub mod Used
+pub mod Alike
 pub mod Examples
 pub mod Laws

@@ -1,6 +1,6 @@
 //! Laws of the definitions.
 ghost use Rattle.rebuild_spec.specs.Examples.{ExamplesAreRebuilt};
-ghost use Rattle.rebuild_spec.specs.Laws.{BranchesArePicked, OneIsRebuilt, RebuiltHasUsed, RebuiltIsAccepted, RebuiltIsClosed, RebuiltIsFew, RebuiltIsFromSearch, RebuiltIsReached, SomeIsRebuilt};
+ghost use Rattle.rebuild_spec.specs.Laws.{BranchesArePicked, OneIsRebuilt, RebuiltFixesInstances, RebuiltHasUsed, RebuiltIsAccepted, RebuiltIsClosed, RebuiltIsFew, RebuiltIsFromSearch, RebuiltIsReached, SomeIsRebuilt};
 
 /// What is rebuilt is accepted, and the tableau of its last line closes the start.
 pub fn rebuilt_is_accepted()
@@ -21,6 +21,11 @@ pub fn rebuilt_is_trimmed()
     ensures from_search { RebuiltIsFromSearch }
     ensures few { RebuiltIsFew }
     ensures used { RebuiltHasUsed }
+{}
+
+/// A refutation fixes which clauses of instances are used, and the instances.
+pub fn rebuilt_fixes_instances()
+    ensures { RebuiltFixesInstances }
 {}
 
 /// The branch of a clause's line is the principals and then the negations of what was picked from the alternatives.

@@ -5,6 +5,6 @@
 mod law;
 
 pub use law::{
-    branches_are_picked, examples_are_rebuilt, one_is_rebuilt, rebuilt_is_accepted,
-    rebuilt_is_trimmed,
+    branches_are_picked, examples_are_rebuilt, one_is_rebuilt, rebuilt_fixes_instances,
+    rebuilt_is_accepted, rebuilt_is_trimmed,
 };

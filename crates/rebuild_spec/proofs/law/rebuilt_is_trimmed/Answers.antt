@@ -1,16 +1,14 @@
-use Rattle.rebuild_spec.proofs.UsedLines.{IsIn, used_line}
+use Rattle.rebuild_spec.proofs.AlikeLaws.{clause_line, line_listed}
 use Rattle.rebuild_spec.proofs.UsedLaws.{lines_few}
 use Rattle.rebuild_spec.specs.Used.{AreFew}
 use Rattle.rebuild_spec.proofs.LastLaws.{walk_ordered}
-use Rattle.std.proofs.Common.{◌≡◌, ◌∙◌, ℕ, suc, zero, List, [], ◌∷◌, map, option_map, Some, slice_get, Contains, refl, sym, ap, subst, arith}
-use Rattle.std.proofs.lemmas.Option.{slice_get-map}
-use Rattle.rebuild_spec.specs.Stands.{line, instance_line}
+use Rattle.std.proofs.Common.{◌≡◌, ℕ, suc, zero, List, [], ◌∷◌, map, Some, slice_get, Contains, refl, sym, subst, arith}
 use Rattle.rebuild_spec.specs.Trees.{at_result}
-use Rattle.tableau_calculus.proofs.ListLaws.{contains_cases, contains-get}
-use Rattle.rebuild_spec.specs.Lines.{walked, line_number_in, line_of, lines_from}
+use Rattle.tableau_calculus.proofs.ListLaws.{contains_cases}
+use Rattle.rebuild_spec.specs.Lines.{walked, line_of}
 use Rattle.rebuild_spec.specs.Trimmed.{IsEachReached, IsFromSearch}
 use Rattle.rebuild_spec.proofs.StandsLaws.{IsMade, one_made, lines_made}
-use Rattle.rebuild_spec.proofs.ReachedLaws.{IsReachedLine, lines_reached, all_reached, walked_all}
+use Rattle.rebuild_spec.proofs.ReachedLaws.{all_reached, walked_all}
 use Rattle.rebuild_spec.proofs.FromLaws.{IsFromThere, lines_from_search, from_search}
 use Rattle.rebuild_spec.proofs.law.rebuilt_is_trimmed.Goals as goal
 
@@ -37,17 +35,4 @@ returns-clause-few c = λ scope start input refutation given is.
 
 pub returns-clause-used : goal.returns-clause-used
 returns-clause-used c = λ scope start input refutation given is n clause i used there.
-    let Is = IsMade scope start input given in
-    let one = one_made scope start input given in
-    let made = lines_made scope start input given (at_result is.number) [] is.last is.stands in
-    let trees = walked [] is.last in
-    let Reached = IsReachedLine Is input.atoms trees (walk_ordered Is one is.last made) in
-    let whole : IsIn input Reached (at_result is.number) = record { clause = []; standing = line is.last; stands = is.stands; all = lines_reached Is one input.atoms is.last made } in
-    let reached = used_line input Reached is.number is.is_last whole n clause i used there in
-    let t = instance_line n clause i in
-    let at = slice_get-map (line_of input.atoms trees) trees (line_number_in trees t) ∙ ap (option_map (line_of input.atoms trees)) reached.listed in
-    record {
-      line = line_of input.atoms trees t;
-      there = subst (λ k. Contains k (line_of input.atoms trees t)) (sym is.lines) (contains-get (lines_from input.atoms is.last) (line_number_in trees t) (line_of input.atoms trees t) at);
-      branch = refl;
-    }
+    record { line = clause_line input.atoms clause i; there = line_listed scope start input refutation given is n clause i used there; branch = refl }
