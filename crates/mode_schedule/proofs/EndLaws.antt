@@ -11,7 +11,7 @@ use Rattle.command_queue.specs.declared.entry.Entry.{Entry}
 use Rattle.command_queue.specs.Queue.{comes_before}
 use Rattle.search_spec.specs.Result.{GoesOn, GoesOnUntil, IsProved, IsExhausted, IsStopped, Result, proved, gave_up, stopped, IsResult}
 use Rattle.search_spec.proofs.ResultLaws.{one_result}
-use Rattle.mode_schedule.specs.Turns.{Slot, Course, turns_from, opened, IsNextTurn, done_by, taken, pushed_again, exhausted_by, End, closed, empty, limit, ScheduleEndsFrom, closes, has_none_left, is_at_limit, goes_on, no_turn_left, ScheduleEnds}
+use Rattle.mode_schedule.specs.Turns.{Slot, Course, turns_from, opened, IsNextTurn, done_by, taken, pushed_again, exhausted_by, End, closed, empty, limit, LeadsTo, has_none_left, is_at_limit, goes_on, ScheduleEndsFrom, closes, ends_after, no_turn_left, ScheduleEnds}
 use Rattle.mode_schedule.specs.Laws.{IsProvedRun, IsClosedEnd, ClosedRunsAreProved, ClosedExactlyWhereProved}
 
 -- A RUN
@@ -37,7 +37,7 @@ goes_past setting start r n h until l = no_more setting start r h (until (number
 -- THE NEXT TURN
 
 -- the same turn is next, with the same run
-one_next : (slots : List Slot) (c : Course) (t u : Entry ℕ) (p q : Slot) → IsNextTurn slots c t p → IsNextTurn slots c u q → (t ≡ u) × (p ≡ q)
+pub one_next : (slots : List Slot) (c : Course) (t u : Entry ℕ) (p q : Slot) → IsNextTurn slots c t p → IsNextTurn slots c u q → (t ≡ u) × (p ≡ q)
 one_next slots c t u p q h k =
     let turn : t ≡ u = same_Some t u (sym h.is_next ∙ k.is_next) in
     (turn, same_Some p q (sym h.its_slot ∙ ap (λ (w : Entry ℕ). slice_get slots w.command) turn ∙ k.its_slot))
@@ -77,11 +77,14 @@ record HasNoTurn (slots : List Slot) (start : List Literal) (c : Course) (e : En
   none : c.turns ≡ []
   end_is : e ≡ (if c.exhausted then empty c.total else limit c.total)
 
+later-view : (slots : List Slot) (start : List Literal) (c next : Course) (e : End) → LeadsTo slots start c next → ScheduleEndsFrom slots start next e → EndsWithin slots start c e ⊎ (WaitsAgain slots start c e ⊎ HasNoTurn slots start c e)
+later-view slots start _ _ e (has_none_left c turn slot k h l p) d = inl (record { turn = turn; slot = slot; k = k; result = gave_up (done_by c turn + k); next = h; within = l; is_result = p; number_is = refl; follows = d })
+later-view slots start _ _ e (is_at_limit c turn slot k h l p) d = inl (record { turn = turn; slot = slot; k = k; result = stopped (done_by c turn + k); next = h; within = l; is_result = p; number_is = refl; follows = d })
+later-view slots start _ _ e (goes_on c turn slot h until) d = inr (inl (record { turn = turn; slot = slot; next = h; until = until; follows = d }))
+
 view : (slots : List Slot) (start : List Literal) (c : Course) (e : End) → ScheduleEndsFrom slots start c e → EndsWithin slots start c e ⊎ (WaitsAgain slots start c e ⊎ HasNoTurn slots start c e)
 view slots start _ _ (closes c turn slot k h l p) = inl (record { turn = turn; slot = slot; k = k; result = proved (done_by c turn + k); next = h; within = l; is_result = p; number_is = refl; follows = refl })
-view slots start _ _ (has_none_left c turn slot k e h l p d) = inl (record { turn = turn; slot = slot; k = k; result = gave_up (done_by c turn + k); next = h; within = l; is_result = p; number_is = refl; follows = d })
-view slots start _ _ (is_at_limit c turn slot k e h l p d) = inl (record { turn = turn; slot = slot; k = k; result = stopped (done_by c turn + k); next = h; within = l; is_result = p; number_is = refl; follows = d })
-view slots start _ _ (goes_on c turn slot e h until d) = inr (inl (record { turn = turn; slot = slot; next = h; until = until; follows = d }))
+view slots start _ _ (ends_after c next e t d) = later-view slots start c next e t d
 view slots start _ _ (no_turn_left c none) = inr (inr (record { none = none; end_is = refl }))
 
 module _ (slots : List Slot) (start : List Literal) (c : Course) (e : End) (turn : Entry ℕ) (slot : Slot) (h : IsNextTurn slots c turn slot) where
@@ -132,11 +135,15 @@ none-view slots start c e none (inl w) = absurd (no_next slots c w.turn w.slot w
 none-view slots start c e none (inr (inl w)) = absurd (no_next slots c w.turn w.slot w.next none)
 none-view slots start c e none (inr (inr w)) = w.end_is
 
+-- from the course to which the next turn leads, the schedule ends as from that before
+after-view : (slots : List Slot) (start : List Literal) (c next : Course) (e : End) → LeadsTo slots start c next → EndsWithin slots start c e ⊎ (WaitsAgain slots start c e ⊎ HasNoTurn slots start c e) → ScheduleEndsFrom slots start next e
+after-view slots start _ _ e (has_none_left c turn slot k h l p) w = within-view slots start c e turn slot h k (gave_up (done_by c turn + k)) p refl l w
+after-view slots start _ _ e (is_at_limit c turn slot k h l p) w = within-view slots start c e turn slot h k (stopped (done_by c turn + k)) p refl l w
+after-view slots start _ _ e (goes_on c turn slot h until) w = again-view slots start c e turn slot h until w
+
 pub one_end : (slots : List Slot) (start : List Literal) (c : Course) (e e' : End) → ScheduleEndsFrom slots start c e → ScheduleEndsFrom slots start c e' → e ≡ e'
 one_end slots start _ _ e' (closes c turn slot k h l p) d' = sym (within-view slots start c e' turn slot h k (proved (done_by c turn + k)) p refl l (view slots start c e' d'))
-one_end slots start _ _ e' (has_none_left c turn slot k e h l p d) d' = one_end slots start (exhausted_by (taken c turn k)) e e' d (within-view slots start c e' turn slot h k (gave_up (done_by c turn + k)) p refl l (view slots start c e' d'))
-one_end slots start _ _ e' (is_at_limit c turn slot k e h l p d) d' = one_end slots start (taken c turn k) e e' d (within-view slots start c e' turn slot h k (stopped (done_by c turn + k)) p refl l (view slots start c e' d'))
-one_end slots start _ _ e' (goes_on c turn slot e h until d) d' = one_end slots start (pushed_again slot turn (taken c turn slot.slice)) e e' d (again-view slots start c e' turn slot h until (view slots start c e' d'))
+one_end slots start _ _ e' (ends_after c next e t d) d' = one_end slots start next e e' d (after-view slots start c next e' t (view slots start c e' d'))
 one_end slots start _ _ e' (no_turn_left c none) d' = sym (none-view slots start c e' none (view slots start c e' d'))
 
 -- CLOSED, THEN PROVED
@@ -152,9 +159,7 @@ closed_from : (slots : List Slot) (start : List Literal) (c : Course) (e : End) 
 closed_from slots start _ _ block total (closes c turn slot k h l p) f =
     let same = closed_block turn.command block (c.total + k) total f in
     (slot, ap (slice_get slots) (sym same) ∙ h.its_slot, (done_by c turn + k, p))
-closed_from slots start _ _ block total (has_none_left c turn slot k e h l p d) f = closed_from slots start _ e block total d f
-closed_from slots start _ _ block total (is_at_limit c turn slot k e h l p d) f = closed_from slots start _ e block total d f
-closed_from slots start _ _ block total (goes_on c turn slot e h until d) f = closed_from slots start _ e block total d f
+closed_from slots start _ _ block total (ends_after c next e t d) f = closed_from slots start next e block total d f
 closed_from slots start _ _ block total (no_turn_left c none) f = absurd (no_closed c.exhausted c.total block total f)
 
 pub closed_proved : ClosedRunsAreProved
@@ -313,14 +318,14 @@ module _ (slots : List Slot) (start : List Literal) (c : Course) (turn : Entry �
 keeps-exhausted : (slots : List Slot) (start : List Literal) (c : Course) → Keeps slots start c → Keeps slots start (exhausted_by c)
 keeps-exhausted slots start c k = record { spaced = k.spaced; each = k.each }
 
+keeps-after : (slots : List Slot) (start : List Literal) (c next : Course) → LeadsTo slots start c next → Keeps slots start c → Keeps slots start next
+keeps-after slots start _ _ (has_none_left c turn slot k h l p) keeps = keeps-exhausted slots start (taken c turn k) (keeps-left slots start c turn slot h keeps k (done_by c turn + k, inl p))
+keeps-after slots start _ _ (is_at_limit c turn slot k h l p) keeps = keeps-left slots start c turn slot h keeps k (done_by c turn + k, inr p)
+keeps-after slots start _ _ (goes_on c turn slot h until) keeps = keeps-again slots start c turn slot h keeps
+
 proved_from : (slots : List Slot) (start : List Literal) (c : Course) (e : End) → ScheduleEndsFrom slots start c e → Keeps slots start c → (block : ℕ) → IsProvedRun slots start block → IsClosedEnd e
 proved_from slots start _ _ (closes c turn slot k h l p) keeps block run = (turn.command, c.total + k, refl)
-proved_from slots start _ _ (has_none_left c turn slot k e h l p d) keeps block run =
-    proved_from slots start _ e d (keeps-exhausted slots start (taken c turn k) (keeps-left slots start c turn slot h keeps k (done_by c turn + k, inl p))) block run
-proved_from slots start _ _ (is_at_limit c turn slot k e h l p d) keeps block run =
-    proved_from slots start _ e d (keeps-left slots start c turn slot h keeps k (done_by c turn + k, inr p)) block run
-proved_from slots start _ _ (goes_on c turn slot e h until d) keeps block run =
-    proved_from slots start _ e d (keeps-again slots start c turn slot h keeps) block run
+proved_from slots start _ _ (ends_after c next e t d) keeps block run = proved_from slots start next e d (keeps-after slots start c next t keeps) block run
 proved_from slots start _ _ (no_turn_left c none) keeps block run = absurd (by_kind (keeps.each block run.0 run.1))
   where
     by_kind : Waits block c.turns ⊎ HasLeft run.0 start → ⊥

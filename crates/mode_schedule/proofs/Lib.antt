@@ -4,6 +4,7 @@ pub mod BlockLaws
 pub mod RefusalLaws
 pub mod ExampleLaws
 pub mod EndLaws
+pub mod SpendLaws
 pub mod QueueLaws
 pub mod WholeLaws
 pub mod RefutedLaws

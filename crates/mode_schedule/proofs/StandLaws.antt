@@ -13,12 +13,11 @@ use Rattle.search_spec.specs.Result.{GoesOnUntil, IsProved, IsExhausted, IsStopp
 use Rattle.command_queue.specs.declared.entry.Entry.{Entry}
 use Rattle.command_queue.specs.Queue.{Queue, TakesEntry, AddsEntry}
 use Rattle.prover_state.proofs.EachLaws.{All-from_each, each-weaker, each-both, each-without, each-last, each-at}
-use Rattle.prover_run.specs.Ended.{IsSpent}
 use Rattle.mode_schedule.specs.declared.turns.Turn.{Turn}
 use Rattle.mode_schedule.specs.declared.Block.{Block}
 use Rattle.mode_schedule.specs.Grammar.{most_blocks}
-use Rattle.mode_schedule.specs.Turns.{Slot, Course, turns_from, opened, IsNextTurn, taken, pushed_again, exhausted_by, closed, empty, limit, ScheduleEndsFrom, closes, has_none_left, is_at_limit, goes_on, no_turn_left, ScheduleEnds}
-use Rattle.mode_schedule.specs.Ends.{IsSpentIn, IsLeft}
+use Rattle.mode_schedule.specs.Turns.{Slot, Course, turns_from, opened, IsNextTurn, taken, pushed_again, exhausted_by, closed, empty, limit, LeadsTo, has_none_left, is_at_limit, goes_on, ScheduleEndsFrom, closes, ends_after, no_turn_left, ScheduleEnds}
+use Rattle.mode_schedule.specs.Ends.{IsSpentAt, spends_here, spends_later, Spends, IsLeft}
 use Rattle.mode_schedule.specs.declared.turned.Turned.{Turned}
 use Rattle.mode_schedule.specs.declared.turned.Turned.TheVariants.{Closed, HasNoneLeft, IsAtLimit, Spent, Paused}
 use Rattle.mode_schedule.specs.Internal.Turning.{IsRunPlace, IsRunThere, IsWithinTurn, TurnEnds, TookPlace, WherePaused, WhereClosed}
@@ -132,6 +131,7 @@ module _ {S : Type 0} (At : Setting → ℕ → S → Type 0) (slots : List Slot
         total_is = sym f.total_is;
         exhausted_is = sym f.exhausted_is;
         reaches = λ e d. d;
+        spends = λ n d. d;
         apart = subst HaveOwnBlocks (sym f.entries_are) (first-apart 0 (map (λ (s : Slot). s.slice) slots));
         each = subst (Each (IsTurn At slots (map (λ (s : Slot). 0) slots) runs)) (sym f.entries_are) (each-first runs f.none places 0 slots (λ i. ap (slice_get slots) (omega arith)));
         sum_is = sum_none slots ∙ sym f.total_is;
@@ -240,13 +240,15 @@ module _ {S : Type 0} (At : Setting → ℕ → S → Type 0) (slots : List Slot
         pub stands-exhausted : IsWithinTurn slot.slice before (before + commands) (IsExhausted slot.setting start) → StandsForCourse At slots start mid.entries mid.pushes (total + commands) true runs_now
         stands-exhausted t =
             let k : t.k ≡ commands = omega (arith, t.carried) in
+            let leads : LeadsTo slots start c (exhausted_by (taken c (waiting_of e) commands)) = has_none_left c (waiting_of e) slot commands next (omega (arith, t.within, k)) t.ends in
             record {
               course = exhausted_by (taken c (waiting_of e) commands);
               turns_are = turns_left-here;
               pushes_are = stands.pushes_are ∙ sym takes.pushes;
               total_is = ap (λ n. n + commands) stands.total_is;
               exhausted_is = refl;
-              reaches = λ x d. stands.reaches x (has_none_left c (waiting_of e) slot commands x next (omega (arith, t.within, k)) t.ends d);
+              reaches = λ x d. stands.reaches x (ends_after c _ x leads d);
+              spends = λ n d. stands.spends n (spends_later c _ n leads d);
               apart = apart_left;
               each = each_now;
               sum_is = sum_now;
@@ -259,13 +261,15 @@ module _ {S : Type 0} (At : Setting → ℕ → S → Type 0) (slots : List Slot
         pub stands-stopped : IsWithinTurn slot.slice before (before + commands) (IsStopped slot.setting start) → StandsForCourse At slots start mid.entries mid.pushes (total + commands) exhausted runs_now
         stands-stopped t =
             let k : t.k ≡ commands = omega (arith, t.carried) in
+            let leads : LeadsTo slots start c (taken c (waiting_of e) commands) = is_at_limit c (waiting_of e) slot commands next (omega (arith, t.within, k)) t.ends in
             record {
               course = taken c (waiting_of e) commands;
               turns_are = turns_left-here;
               pushes_are = stands.pushes_are ∙ sym takes.pushes;
               total_is = ap (λ n. n + commands) stands.total_is;
               exhausted_is = stands.exhausted_is;
-              reaches = λ x d. stands.reaches x (is_at_limit c (waiting_of e) slot commands x next (omega (arith, t.within, k)) t.ends d);
+              reaches = λ x d. stands.reaches x (ends_after c _ x leads d);
+              spends = λ n d. stands.spends n (spends_later c _ n leads d);
               apart = apart_left;
               each = each_now;
               sum_is = sum_now;
@@ -280,6 +284,11 @@ module _ {S : Type 0} (At : Setting → ℕ → S → Type 0) (slots : List Slot
             let k : t.k ≡ commands = omega (arith, t.carried) in
             subst (λ n. ScheduleEnds slots start (closed block (n + commands))) stands.total_is
             (stands.reaches (closed block (c.total + commands)) (closes c (waiting_of e) slot commands next (omega (arith, t.within, k)) t.ends))
+
+        pub stands-spent : (conflicts : ℕ) → IsWithinTurn slot.slice before (before + commands) (λ n. IsSpentAt slot.setting start n conflicts) → Spends slots start conflicts
+        stands-spent conflicts t =
+            let k : t.k ≡ commands = omega (arith, t.carried) in
+            stands.spends conflicts (spends_here c (waiting_of e) slot commands conflicts next (omega (arith, t.within, k)) t.ends)
 
         pub left-closed : (Left : Setting → ℕ → S → Type 0) → IsWithinTurn slot.slice before (before + commands) (IsProved slot.setting start) → IsRunThere (Left slot.setting) (before + commands) place → IsLeft Left slots start runs_now block
         left-closed Left t there = record {
@@ -306,6 +315,8 @@ module _ {S : Type 0} (At : Setting → ℕ → S → Type 0) (slots : List Slot
               its_place = placed-now;
               held = subst (λ n. IsRunPlace (At slot.setting) n place) (sym (get_or-set_same c.done block (before + commands) 0 (omega (arith, in_slots, stands.counted)))) (subst (IsRunPlace (At slot.setting) (before + commands)) (sym there.place_is) there.holds);
             } in
+            let leads : LeadsTo slots start c (pushed_again slot (waiting_of e) (taken c (waiting_of e) commands)) =
+                subst (λ n. LeadsTo slots start c (pushed_again slot (waiting_of e) (taken c (waiting_of e) n))) (sym k) (goes_on c (waiting_of e) slot next (subst (GoesOnUntil slot.setting start) t.0 t.1)) in
             let due_is : c.total + commands + slot.slice ≡ total + commands + e.command.slice = omega (arith, stands.total_is, its-turn.slice_is) in
             record {
               course = pushed_again slot (waiting_of e) (taken c (waiting_of e) commands);
@@ -317,7 +328,8 @@ module _ {S : Type 0} (At : Setting → ℕ → S → Type 0) (slots : List Slot
               pushes_are = ap (λ n. n + 1) (stands.pushes_are ∙ sym takes.pushes) ∙ sym adds.pushes;
               total_is = ap (λ n. n + commands) stands.total_is;
               exhausted_is = stands.exhausted_is;
-              reaches = λ x d. stands.reaches x (goes_on c (waiting_of e) slot x next (subst (GoesOnUntil slot.setting start) t.0 t.1) (subst (λ n. ScheduleEndsFrom slots start (pushed_again slot (waiting_of e) (taken c (waiting_of e) n)) x) k d));
+              reaches = λ x d. stands.reaches x (ends_after c _ x leads d);
+              spends = λ n d. stands.spends n (spends_later c _ n leads d);
               apart = subst HaveOwnBlocks (sym adds.entries) (apart-last mid.entries again apart_left others);
               each = subst (Each (IsTurn At slots done runs_now)) (sym adds.entries) (each-last (IsTurn At slots done runs_now) mid.entries again each_now its);
               sum_is = sum_now;
@@ -326,9 +338,6 @@ module _ {S : Type 0} (At : Setting → ℕ → S → Type 0) (slots : List Slot
               places = length-set runs block place ∙ stands.places;
               few = omega (arith, stands.few, takes.pushes, adds.pushes, k, some);
             }
-
-    pub spent-here : (conflicts : ℕ) → IsSpent slot.setting start conflicts → IsSpentIn slots start conflicts
-    spent-here conflicts spent = record { number = block; slot = slot; its_slot = its-turn.its_slot; spent = spent }
 
     -- what stands at the place
     pub held-here : (place : Option S) → place ≡ get_or runs block place → IsRunPlace (At slot.setting) before place
@@ -356,8 +365,8 @@ module _ {S : Type 0} (At : Setting → ℕ → S → Type 0) (slots : List Slot
       pub took-stopped : turned ≡ IsAtLimit → StandsForCourse At slots start mid.entries mid.pushes (total + commands) exhausted (slice_set runs block place)
       took-stopped is = stands-stopped commands good t.within place (now-ends IsAtLimit is)
 
-      pub took-spent : (conflicts : ℕ) → turned ≡ Spent conflicts → IsSpentIn slots start conflicts
-      took-spent conflicts is = spent-here conflicts (now-ends (Spent conflicts) is)
+      pub took-spent : (conflicts : ℕ) → turned ≡ Spent conflicts → Spends slots start conflicts
+      took-spent conflicts is = stands-spent commands good t.within place conflicts (now-ends (Spent conflicts) is)
 
       pub took-again : turned ≡ Paused → (new : Queue Turn R) → AddsEntry mid new 1 (total + commands + e.command.slice) e.command → StandsForCourse At slots start new.entries new.pushes (total + commands) exhausted (slice_set runs block place)
       took-again is new adds = stands-again commands good t.within place new adds (now-ends Paused is) (subst (λ (x : Turned). WherePaused x (IsRunThere (At slot.setting) (before + commands) place)) is t.paused)

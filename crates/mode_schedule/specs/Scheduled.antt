@@ -8,7 +8,7 @@ use Rattle.mode_schedule.specs.declared.Block.{Block}
 use Rattle.mode_schedule.specs.declared.scheduled.Scheduled.{Scheduled}
 use Rattle.mode_schedule.specs.declared.scheduled.Scheduled.TheVariants.{Closed, Empty, Limit, Spent}
 use Rattle.mode_schedule.specs.Turns.{Slot, closed, empty, limit, ScheduleEnds}
-use Rattle.mode_schedule.specs.Ends.{IsSpentIn}
+use Rattle.mode_schedule.specs.Ends.{Spends}
 
 -- the run of a block over the problem
 abbrev pub slot_for : PlainProblem → Block → Slot
@@ -30,4 +30,4 @@ EndsBy p blocks (Closed block total refutation) =
     ScheduleEnds (slots_for p blocks) (start p) (closed block total) × IsRefutedIn p blocks block refutation
 EndsBy p blocks (Empty total) = ScheduleEnds (slots_for p blocks) (start p) (empty total)
 EndsBy p blocks (Limit total) = ScheduleEnds (slots_for p blocks) (start p) (limit total)
-EndsBy p blocks (Spent conflicts) = IsSpentIn (slots_for p blocks) (start p) conflicts
+EndsBy p blocks (Spent conflicts) = Spends (slots_for p blocks) (start p) conflicts

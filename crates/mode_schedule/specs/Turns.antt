@@ -62,24 +62,26 @@ pub data End : Type 0 where
   empty : ℕ → End
   limit : ℕ → End
 
--- How a schedule ends that has come so far. The run whose turn is next looks before each command whether it is proved, has no command left,
--- or is at its limit, and carries out as many commands as its slice has at most. Where it is proved, the schedule is closed. Where it has
--- no command left or is at its limit, it leaves. Where it has carried out its slice, which it does without looking again, it waits for its
--- next turn.
+-- The next turn leads from a course to the next one. The run whose turn it is looks before each command whether it has no command left, or
+-- is at its limit, and carries out as many commands as its slice has at most. Where it has no command left or is at its limit, it leaves.
+-- Where it has carried out its slice, which it does without looking again, it waits for its next turn.
+pub data LeadsTo (slots : List Slot) (start : List Literal) : Course → Course → Type 0 where
+  has_none_left : (c : Course) (turn : Entry ℕ) (slot : Slot) (k : ℕ) → IsNextTurn slots c turn slot → k < slot.slice
+      → IsExhausted slot.setting start (done_by c turn + k)
+      → LeadsTo slots start c (exhausted_by (taken c turn k))
+  is_at_limit : (c : Course) (turn : Entry ℕ) (slot : Slot) (k : ℕ) → IsNextTurn slots c turn slot → k < slot.slice
+      → IsStopped slot.setting start (done_by c turn + k)
+      → LeadsTo slots start c (taken c turn k)
+  goes_on : (c : Course) (turn : Entry ℕ) (slot : Slot) → IsNextTurn slots c turn slot
+      → GoesOnUntil slot.setting start (done_by c turn + slot.slice)
+      → LeadsTo slots start c (pushed_again slot turn (taken c turn slot.slice))
+
+-- How a schedule ends that has come so far. Where the run of the next turn looks and is proved, before it has carried out its slice, the
+-- schedule is closed. Else the turn leads to the next course, from which it ends.
 pub data ScheduleEndsFrom (slots : List Slot) (start : List Literal) : Course → End → Type 0 where
   closes : (c : Course) (turn : Entry ℕ) (slot : Slot) (k : ℕ) → IsNextTurn slots c turn slot → k < slot.slice
       → IsProved slot.setting start (done_by c turn + k) → ScheduleEndsFrom slots start c (closed turn.command (c.total + k))
-  has_none_left : (c : Course) (turn : Entry ℕ) (slot : Slot) (k : ℕ) (e : End) → IsNextTurn slots c turn slot → k < slot.slice
-      → IsExhausted slot.setting start (done_by c turn + k)
-      → ScheduleEndsFrom slots start (exhausted_by (taken c turn k)) e
-      → ScheduleEndsFrom slots start c e
-  is_at_limit : (c : Course) (turn : Entry ℕ) (slot : Slot) (k : ℕ) (e : End) → IsNextTurn slots c turn slot → k < slot.slice
-      → IsStopped slot.setting start (done_by c turn + k)
-      → ScheduleEndsFrom slots start (taken c turn k) e
-      → ScheduleEndsFrom slots start c e
-  goes_on : (c : Course) (turn : Entry ℕ) (slot : Slot) (e : End) → IsNextTurn slots c turn slot
-      → GoesOnUntil slot.setting start (done_by c turn + slot.slice)
-      → ScheduleEndsFrom slots start (pushed_again slot turn (taken c turn slot.slice)) e
+  ends_after : (c next : Course) (e : End) → LeadsTo slots start c next → ScheduleEndsFrom slots start next e
       → ScheduleEndsFrom slots start c e
   no_turn_left : (c : Course) → c.turns ≡ [] → ScheduleEndsFrom slots start c (if c.exhausted then empty c.total else limit c.total)
 

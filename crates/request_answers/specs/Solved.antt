@@ -15,7 +15,7 @@ use Rattle.prover_run.specs.Ended.{setting_for, IsRefuted, IsSpent}
 use Rattle.prover_run.specs.Tree.{IsTreeAsked}
 use Rattle.mode_schedule.specs.declared.Block.{Block}
 use Rattle.mode_schedule.specs.Turns.{closed, empty, limit, ScheduleEnds}
-use Rattle.mode_schedule.specs.Ends.{IsSpentIn}
+use Rattle.mode_schedule.specs.Ends.{Spends}
 use Rattle.mode_schedule.specs.Scheduled.{slots_for}
 use Rattle.refute_print.specs.Text.{text_lines, as_bytes}
 use Rattle.refute_print.specs.Named.{named_refutation}
@@ -95,7 +95,7 @@ IsSolvedInTurns blocks p Memory = Unit {0}
 IsSolvedInTurns blocks p (Proved claim n told tree text) = (claim ≡ claim_of p) × (tree ≡ Unasked) × IsProofInTurns blocks p n told text
 IsSolvedInTurns blocks p (GaveUp n) = ScheduleEnds (slots_for p blocks) (start (unfolded_problem p)) (empty n)
 IsSolvedInTurns blocks p (CommandLimit n) = ScheduleEnds (slots_for p blocks) (start (unfolded_problem p)) (limit n)
-IsSolvedInTurns blocks p (ConflictLimit c) = IsSpentIn (slots_for p blocks) (start (unfolded_problem p)) c
+IsSolvedInTurns blocks p (ConflictLimit c) = Spends (slots_for p blocks) (start (unfolded_problem p)) c
 IsSolvedInTurns blocks p answer = ⊥
 
 -- what a generated problem is answered with: it is done where its run is answered with a proof

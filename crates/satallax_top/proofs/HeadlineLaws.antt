@@ -18,6 +18,7 @@ use Rattle.mode_file.specs.declared.Mode.{Mode}
 use Rattle.mode_schedule.specs.declared.Block.{Block}
 use Rattle.mode_schedule.specs.Turns.{Slot}
 use Rattle.mode_schedule.specs.Scheduled.{slot_for, slots_for}
+use Rattle.mode_schedule.proofs.SpendLaws.{spent_runs}
 use Rattle.cli_words.specs.Requests.{Request, prove, by_schedule, refutation, generated, models, sides, asked_by}
 use Rattle.cli_words.specs.declared.Cuts.{Cuts}
 use Rattle.cli_words.specs.declared.Cuts.TheVariants.{Allowed, Forbidden}
@@ -447,7 +448,7 @@ never_spent (Some (prove p file nodes)) seen conflicts enough h =
     never-ends (setting_for f.problem f.mode) (start (unfolded_problem f.problem)) conflicts (enough f.mode f.names f.problem f.is_mode f.stated) f.answered
 never_spent (Some (by_schedule file p)) seen conflicts enough h =
     let f = files_answered (by_schedule file p) seen (ConflictLimit conflicts) (λ x. x) h in
-    let q = f.answered in
+    let q = spent_runs (slots_for f.problem f.blocks) (start (unfolded_problem f.problem)) conflicts f.answered in
     let b = mode-of-slot f.problem f.blocks q.number q.slot q.its_slot in
     never-ends (setting_for f.problem b.block.mode) (start (unfolded_problem f.problem)) conflicts
     (enough b.block.mode f.names f.problem (f.blocks, f.are_blocks, (q.number, b.block, b.its_block, refl)) f.stated)

@@ -14,7 +14,7 @@ use Rattle.prover_state.specs.declared.command.Delays.{Delays}
 use Rattle.prover_state.specs.declared.tables.Tables.{Tables}
 use Rattle.prover_state.specs.Internal.Standing.{setting_by, the_state}
 use Rattle.prover_search.specs.Internal.Running.{start_in, IsUnderWay}
-use Rattle.prover_run.specs.Ended.{IsSpent}
+use Rattle.mode_schedule.specs.Ends.{IsSpentAt}
 use Rattle.mode_schedule.specs.declared.turned.Turned.{Turned}
 use Rattle.mode_schedule.specs.declared.turned.Turned.TheVariants.{Closed, HasNoneLeft, IsAtLimit, Spent, Paused}
 
@@ -42,7 +42,7 @@ abbrev pub IsFound : Setting → List Literal → ℕ → Turned → Type 0
 IsFound setting start n Closed = IsProved setting start n
 IsFound setting start n HasNoneLeft = IsExhausted setting start n
 IsFound setting start n IsAtLimit = IsStopped setting start n
-IsFound setting start n (Spent conflicts) = IsSpent setting start conflicts
+IsFound setting start n (Spent conflicts) = IsSpentAt setting start n conflicts
 IsFound setting start n Paused = ⊥
 
 -- a search at such a place of its run, which was refused no memory

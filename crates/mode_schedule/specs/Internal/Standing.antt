@@ -7,6 +7,7 @@ use Rattle.command_queue.specs.declared.entry.Entry.{Entry}
 use Rattle.mode_schedule.specs.declared.turns.Turn.{Turn}
 use Rattle.mode_schedule.specs.Grammar.{most_blocks}
 use Rattle.mode_schedule.specs.Turns.{Slot, Course, End, ScheduleEndsFrom, ScheduleEnds}
+use Rattle.mode_schedule.specs.Ends.{SpendsFrom, Spends}
 use Rattle.mode_schedule.specs.Internal.Turning.{IsRunPlace}
 
 abbrev pub waiting_of : Entry Turn → Entry ℕ
@@ -52,8 +53,8 @@ pub record IsTurn {S : Type 0} (At : Setting → ℕ → S → Type 0) (slots : 
 abbrev pub most_commands : ℕ
 most_commands = 1000000
 
--- Turns and runs that stand for a course, from which the schedule ends as from its start. No run has carried out more commands than it may
--- at most.
+-- Turns and runs that stand for a course, from which the schedule ends, or spends conflicts, as from its start. No run has carried out more
+-- commands than it may at most.
 pub record StandsForCourse {S : Type 0} (At : Setting → ℕ → S → Type 0) (slots : List Slot) (start : List Literal)
     (entries : List (Entry Turn)) (pushes total : ℕ) (exhausted : Bool) (runs : List (Option S)) : Type 0 where
   pub course : Course
@@ -62,6 +63,7 @@ pub record StandsForCourse {S : Type 0} (At : Setting → ℕ → S → Type 0) 
   pub total_is : course.total ≡ total
   pub exhausted_is : course.exhausted ≡ exhausted
   pub reaches : (e : End) → ScheduleEndsFrom slots start course e → ScheduleEnds slots start e
+  pub spends : (conflicts : ℕ) → SpendsFrom slots start course conflicts → Spends slots start conflicts
   pub apart : HaveOwnBlocks entries
   pub each : Each (IsTurn At slots course.done runs) entries
   pub sum_is : sum course.done ≡ total

@@ -3,7 +3,7 @@ use Rattle.std.specs.Prelude.{◌≡◌, ◌<◌, ◌≤◌, ◌+◌, ℕ, Optio
 use Rattle.tableau_calculus.specs.Literals.{Literal}
 use Rattle.search_spec.specs.State.{Setting}
 use Rattle.search_spec.specs.Result.{GoesOnUntil, IsProved, IsExhausted, IsStopped}
-use Rattle.prover_run.specs.Ended.{IsSpent}
+use Rattle.mode_schedule.specs.Ends.{IsSpentAt}
 use Rattle.mode_schedule.specs.declared.turned.Turned.{Turned}
 use Rattle.mode_schedule.specs.declared.turned.Turned.TheVariants.{Closed, HasNoneLeft, IsAtLimit, Spent, Paused}
 
@@ -19,7 +19,8 @@ abbrev pub TurnEnds : Setting → List Literal → ℕ → ℕ → ℕ → Turne
 TurnEnds setting start slice before after Closed = IsWithinTurn slice before after (IsProved setting start)
 TurnEnds setting start slice before after HasNoneLeft = IsWithinTurn slice before after (IsExhausted setting start)
 TurnEnds setting start slice before after IsAtLimit = IsWithinTurn slice before after (IsStopped setting start)
-TurnEnds setting start slice before after (Spent conflicts) = IsSpent setting start conflicts
+TurnEnds setting start slice before after (Spent conflicts) =
+    IsWithinTurn slice before after (λ n. IsSpentAt setting start n conflicts)
 TurnEnds setting start slice before after Paused = (after ≡ before + slice) × GoesOnUntil setting start after
 
 -- something holds where the turn ends so that the search waits for another one, or so that it closes
