@@ -1,10 +1,11 @@
 // Runs the prover on the words of the command line.
 #![tactic(auto)]
 
-ghost use Rattle.std.specs.Prelude.{◌≡◌, ◌⊎◌, [], map, drop, string_bytes, IfOk};
+ghost use Rattle.std.specs.Prelude.{◌≡◌, ◌⊎◌, ◌++◌, [], map, drop, string_bytes, IfOk, IsTrue};
 ghost use Rattle.std.specs.Process.{exit_status};
 ghost use Rattle.std.specs.Vec.Iter.{into_iter_items};
 ghost use Rattle.outside.specs.Causes.{Rose};
+ghost use Rattle.outside.specs.Prefix.{AppendsProperly};
 ghost use Rattle.szs_report.specs.Status.{status_of};
 ghost use Rattle.szs_report.specs.declared.outcome.Outcome.TheVariants.{WriteFault};
 
@@ -41,10 +42,13 @@ fn unread(error: io::Error) -> ExitCode {
     }
 }
 
-/// The exit status of a call with this outcome, once its report is handed on.
+/// The exit status of a call with this outcome, once its report is handed on: all that was held, and nothing else. Where a write fails, a
+/// part of it is.
 fn exit_code<S: Sink>(out: &mut BufferedSink<S>, outcome: &Outcome) -> ExitCode
-    ensures { ((exit_status result ≡ status_of outcome.now) × (out.new.held ≡ []))
-        ⊎ ((exit_status result ≡ status_of WriteFault) × Rose (S.faults out.old.sink) (S.faults out.new.sink)) }
+    ensures { ((exit_status result ≡ status_of outcome.now) × (out.new.held ≡ [])
+        × (IsTrue (S.tells out.old.sink) → S.written out.new.sink ≡ S.written out.old.sink ++ out.old.held))
+        ⊎ ((exit_status result ≡ status_of WriteFault) × Rose (S.faults out.old.sink) (S.faults out.new.sink)
+        × (IsTrue (S.tells out.old.sink) → AppendsProperly (S.written out.old.sink) (S.written out.new.sink) out.old.held)) }
 {
     match out.flush() {
         Ok(()) => ExitCode::from(outcome.status()),
