@@ -316,7 +316,7 @@ module _ {S : Type 0} (At : Setting → ℕ → S → Type 0) (slots : List Slot
               held = subst (λ n. IsRunPlace (At slot.setting) n place) (sym (get_or-set_same c.done block (before + commands) 0 (omega (arith, in_slots, stands.counted)))) (subst (IsRunPlace (At slot.setting) (before + commands)) (sym there.place_is) there.holds);
             } in
             let leads : LeadsTo slots start c (pushed_again slot (waiting_of e) (taken c (waiting_of e) commands)) =
-                subst (λ n. LeadsTo slots start c (pushed_again slot (waiting_of e) (taken c (waiting_of e) n))) (sym k) (goes_on c (waiting_of e) slot next (subst (GoesOnUntil slot.setting start) t.0 t.1)) in
+            subst (λ n. LeadsTo slots start c (pushed_again slot (waiting_of e) (taken c (waiting_of e) n))) (sym k) (goes_on c (waiting_of e) slot next (subst (GoesOnUntil slot.setting start) t.0 t.1)) in
             let due_is : c.total + commands + slot.slice ≡ total + commands + e.command.slice = omega (arith, stands.total_is, its-turn.slice_is) in
             record {
               course = pushed_again slot (waiting_of e) (taken c (waiting_of e) commands);

@@ -14,8 +14,8 @@ pub record IsSpentAt (setting : Setting) (start : List Literal) (n conflicts : �
   pub spent : IsSpent setting start conflicts
   pub after : spent.commands ≡ n
 
--- A schedule that has come so far spends the conflicts of a mode. Where the run of the next turn looks, before it has carried out its slice,
--- they are spent. Or the turn leads to the next course, from which the schedule spends them.
+-- A schedule that has come so far spends the conflicts of a mode. Where the run of the next turn looks, before it has carried out its
+-- slice, they are spent. Or the turn leads to the next course, from which the schedule spends them.
 pub data SpendsFrom (slots : List Slot) (start : List Literal) : Course → ℕ → Type 0 where
   spends_here : (c : Course) (turn : Entry ℕ) (slot : Slot) (k conflicts : ℕ) → IsNextTurn slots c turn slot → k < slot.slice
       → IsSpentAt slot.setting start (done_by c turn + k) conflicts

@@ -44,7 +44,8 @@ pub record IsSpentIn (slots : List Slot) (start : List Literal) (conflicts : ℕ
 
 -- where a schedule spends conflicts, some run by itself does
 abbrev pub SpentRunsAreSpent : Type 0
-SpentRunsAreSpent = (slots : List Slot) (start : List Literal) (conflicts : ℕ) → Spends slots start conflicts → IsSpentIn slots start conflicts
+SpentRunsAreSpent =
+    (slots : List Slot) (start : List Literal) (conflicts : ℕ) → Spends slots start conflicts → IsSpentIn slots start conflicts
 
 -- Where the run of the next turn is proved in it, a schedule spends no conflicts but in that turn, and none behind that command.
 abbrev pub SpentBeforeClosed : Type 0

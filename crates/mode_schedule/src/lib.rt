@@ -19,7 +19,9 @@ mod turned;
 mod turns;
 
 pub use ended::Ended;
-pub use law::{closed_where_proved, examples_end, one_schedule, schedules_end_one_way, spent_in_turn};
+pub use law::{
+    closed_where_proved, examples_end, one_schedule, schedules_end_one_way, spent_in_turn,
+};
 use mode_file::Mode;
 pub use mode_weigher::ModeWeigher;
 pub use read::read_schedule;

@@ -16,7 +16,8 @@ fn begin<R: Run, M: MakesRuns<R>>(
 ) -> Result<(), AllocError>
     requires within { number < length (M.slots maker.now) }
     requires may { M.may_make maker.now number }
-    ensures { OnOk result ((slot : Slot) (n : ℕ) → slice_get (M.slots maker.now) number ≡ Some slot → IsRunPlace (λ k run. R.at run slot.setting (M.start maker.now) k) n place.old
+    ensures { OnOk result ((slot : Slot) (n : ℕ) → slice_get (M.slots maker.now) number ≡ Some slot
+        → IsRunPlace (λ k run. R.at run slot.setting (M.start maker.now) k) n place.old
         → IsRunThere (λ k run. R.at run slot.setting (M.start maker.now) k) n place.new) }
 {
     if place.is_none() {
@@ -48,8 +49,10 @@ pub(crate) fn turn_at<R: Run, M: MakesRuns<R>>(
     requires may { M.may_make maker.now turn.block }
     requires held { (slot : Slot) × (n : ℕ) × (slice_get (M.slots maker.now) turn.block ≡ Some slot)
         × IsRunPlace (λ k run. R.at run slot.setting (M.start maker.now) k) n place.old }
-    ensures { IfOk result (λ took. (slot : Slot) (n : ℕ) → slice_get (M.slots maker.now) turn.block ≡ Some slot → IsRunPlace (λ k run. R.at run slot.setting (M.start maker.now) k) n place.old
-        → TookPlace (λ k run. R.at run slot.setting (M.start maker.now) k) (λ k run. R.left run slot.setting (M.start maker.now) k) slot.setting (M.start maker.now) turn.slice n place.new took.turned took.commands) }
+    ensures { IfOk result (λ took. (slot : Slot) (n : ℕ) → slice_get (M.slots maker.now) turn.block ≡ Some slot
+        → IsRunPlace (λ k run. R.at run slot.setting (M.start maker.now) k) n place.old
+        → TookPlace (λ k run. R.at run slot.setting (M.start maker.now) k) (λ k run. R.left run slot.setting (M.start maker.now) k)
+        slot.setting (M.start maker.now) turn.slice n place.new took.turned took.commands) }
 {
     begin(maker, turn.block, place)?;
     let took = match place {

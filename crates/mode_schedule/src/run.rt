@@ -40,5 +40,6 @@ pub trait MakesRuns<R: Run> {
     fn make(&self, number: u32) -> Result<R, AllocError>
         requires within { number < length (slots self.now) }
         requires may { may_make self.now number }
-        ensures { IfOk result (λ run. (slot : Slot) → slice_get (slots self.now) number ≡ Some slot → R.at run slot.setting (start self.now) 0) };
+        ensures { IfOk result (λ run. (slot : Slot) → slice_get (slots self.now) number ≡ Some slot
+            → R.at run slot.setting (start self.now) 0) };
 }

@@ -51,7 +51,8 @@ impl<W: Weigher<Waiting> + Copy> MakesRuns<Search<W>> for Searches<'_, W> {
     ghost start = { λ s. filter is_shallow_literal (start (unfolded_problem s.problem.now)) };
 
     ghost may_make = { λ s k. IsTyped s.problem.now × IsModestProblem 1024 s.problem.now
-        × IsPreparedFor (unfolded_problem s.problem.now) s.prepared.now.basis s.prepared.now.start.items × (length s.weighers.now ≡ length s.blocks.now)
+        × IsPreparedFor (unfolded_problem s.problem.now) s.prepared.now.basis s.prepared.now.start.items
+        × (length s.weighers.now ≡ length s.blocks.now)
         × ((block : _) → slice_get s.blocks.now k ≡ Some block → IsInRange block.mode)
         × ((w : _) → slice_get s.weighers.now k ≡ Some w → W.is_callable w)
         × ((block : _) (w : _) → slice_get s.blocks.now k ≡ Some block → slice_get s.weighers.now k ≡ Some w

@@ -17,8 +17,10 @@ use term_bank::equal_ids_for_equal_terms;
 fn look<W: Weigher<Waiting>>(search: &mut Search<W>) -> Result<Option<Turned>, AllocError>
     requires under_way { IsUnderWay search.old.core.tables search.old.core.plan search.old.mode }
     requires ready { search.old.is_refused ≡ false }
-    ensures found { IfOk result (λ o. IfSome o (λ t. GoesOnUntil (setting_by search.old.core.tables search.old.core.plan) (start_in search.old.core.tables) search.old.core.tables.done
-        → IsFound (setting_by search.old.core.tables search.old.core.plan) (start_in search.old.core.tables) search.old.core.tables.done t)) }
+    ensures found { IfOk result (λ o. IfSome o (λ t.
+        GoesOnUntil (setting_by search.old.core.tables search.old.core.plan) (start_in search.old.core.tables) search.old.core.tables.done
+        → IsFound (setting_by search.old.core.tables search.old.core.plan) (start_in search.old.core.tables)
+        search.old.core.tables.done t)) }
     ensures closes { IfOk result (λ o. IfSome o (ClosesSearch search.new.core.tables search.new.core.plan)) }
     ensures same { IfOk result (λ o. IfSome o (λ t. search.new.core.tables.done ≡ search.old.core.tables.done)) }
     ensures goes_on { IfOk result

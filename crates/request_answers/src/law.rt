@@ -10,6 +10,7 @@ ghost use Rattle.request_answers.specs.Checked.{IsAcceptedText, IsRefusedText};
 pub fn one_check()
     ensures accepted { (cuts : Cuts) (p : PlainProblem) (bytes : List ℕ) (line : ℕ) (why : Why) → IsAcceptedText cuts p bytes
         → IsRefusedText cuts p bytes line why → ⊥ }
-    ensures refused { (cuts : Cuts) (p : PlainProblem) (bytes : List ℕ) (line other : ℕ) (why cause : Why) → IsRefusedText cuts p bytes line why → IsRefusedText cuts p bytes other cause
+    ensures refused { (cuts : Cuts) (p : PlainProblem) (bytes : List ℕ) (line other : ℕ) (why cause : Why)
+        → IsRefusedText cuts p bytes line why → IsRefusedText cuts p bytes other cause
         → (line ≡ other) × (why ≡ cause) }
 {}

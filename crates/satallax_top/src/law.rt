@@ -17,13 +17,17 @@ ghost use Rattle.satallax_top.specs.Laws.{ProofPropagatesWithoutConflict, SpentE
 /// So there is one outcome. A run ends in one way, after one number of commands, where its conflicts aren't spent, and so does a schedule
 /// of runs.
 pub fn one_answer()
-    ensures run { (nodes : Option ℕ) (m : Mode) (p : PlainProblem) (one other : Answer) → IsSettled one → IsSettled other → IsSolved nodes m p one → IsSolved nodes m p other
+    ensures run { (nodes : Option ℕ) (m : Mode) (p : PlainProblem) (one other : Answer) → IsSettled one → IsSettled other
+        → IsSolved nodes m p one → IsSolved nodes m p other
         → without_refutation one ≡ without_refutation other }
-    ensures schedule { (blocks : List Block) (p : PlainProblem) (one other : Answer) → IsSettled one → IsSettled other → IsSolvedInTurns blocks p one
-        → IsSolvedInTurns blocks p other → without_refutation one ≡ without_refutation other }
-    ensures answer { (words : List (List ℕ)) (contents : List ℕ → Option (List ℕ)) (one other : Answer) → Defined words contents one → Defined words contents other
+    ensures schedule { (blocks : List Block) (p : PlainProblem) (one other : Answer) → IsSettled one → IsSettled other
+        → IsSolvedInTurns blocks p one → IsSolvedInTurns blocks p other
         → without_refutation one ≡ without_refutation other }
-    ensures outcome { (words : List (List ℕ)) (contents : List ℕ → Option (List ℕ)) (one other : Answer) → Defined words contents one → Defined words contents other
+    ensures answer { (words : List (List ℕ)) (contents : List ℕ → Option (List ℕ)) (one other : Answer)
+        → Defined words contents one → Defined words contents other
+        → without_refutation one ≡ without_refutation other }
+    ensures outcome { (words : List (List ℕ)) (contents : List ℕ → Option (List ℕ)) (one other : Answer)
+        → Defined words contents one → Defined words contents other
         → outcome_of one ≡ outcome_of other }
 {}
 
