@@ -2,7 +2,6 @@
 use Rattle.std.proofs.Common.{◌≡◌, inr, ℕ, List, refl}
 use Rattle.mode_file.specs.declared.refused.ModeRefused.{ModeRefused}
 use Rattle.mode_file.specs.declared.refused.ModeRefused.TheVariants as mode
-use Rattle.mode_schedule.specs.declared.refused.Cause.TheVariants.{UnknownKey, Twice, BadNumber, OutOfRange}
 use Rattle.mode_schedule.specs.Grammar.{IsBadInBlock}
 use Rattle.mode_schedule.specs.Refusals.{RefusesBlocks}
 use Rattle.mode_schedule.specs.Internal.Refused.{bad_line_of, cause_of, schedule_refused_at}

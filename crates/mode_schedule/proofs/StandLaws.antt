@@ -16,7 +16,7 @@ use Rattle.prover_state.proofs.EachLaws.{All-from_each, each-weaker, each-both, 
 use Rattle.mode_schedule.specs.declared.turns.Turn.{Turn}
 use Rattle.mode_schedule.specs.declared.Block.{Block}
 use Rattle.mode_schedule.specs.Grammar.{most_blocks}
-use Rattle.mode_schedule.specs.Turns.{Slot, Course, turns_from, opened, IsNextTurn, taken, pushed_again, exhausted_by, closed, empty, limit, LeadsTo, has_none_left, is_at_limit, goes_on, ScheduleEndsFrom, closes, ends_after, no_turn_left, ScheduleEnds}
+use Rattle.mode_schedule.specs.Turns.{Slot, Course, turns_from, opened, IsNextTurn, taken, pushed_again, exhausted_by, closed, empty, limit, LeadsTo, has_none_left, is_at_limit, goes_on, closes, ends_after, no_turn_left, ScheduleEnds}
 use Rattle.mode_schedule.specs.Ends.{IsSpentAt, spends_here, spends_later, Spends, IsLeft}
 use Rattle.mode_schedule.specs.declared.turned.Turned.{Turned}
 use Rattle.mode_schedule.specs.declared.turned.Turned.TheVariants.{Closed, HasNoneLeft, IsAtLimit, Spent, Paused}
