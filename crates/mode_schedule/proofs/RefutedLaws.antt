@@ -12,7 +12,7 @@ use Rattle.command_queue.specs.Queue.{Queue}
 use Rattle.prover_state.specs.declared.command.Planned.{Planned}
 use Rattle.prover_state.specs.declared.command.Delays.{Delays}
 use Rattle.prover_state.specs.declared.tables.Tables.{Tables}
-use Rattle.prover_state.specs.Internal.Standing.{without_witnesses, setting_by}
+use Rattle.prover_state.specs.Internal.Standing.{without_witnesses, rows_in, setting_by}
 use Rattle.prover_search.specs.Internal.Running.{start_in}
 use Rattle.prover_search.specs.Internal.Progress.{Progress}
 use Rattle.prover_search.specs.Internal.Answers.{StepCloses}
@@ -48,7 +48,7 @@ module _ (setting : Setting) (start : List Literal) (n : ℕ) (t : Tables) (q : 
   closes_here : StepCloses here here
   closes_here = record { unsatisfiable = left.closed.unsatisfiable; stays = record { state = refl; done = refl }; ends = left.closed.ends; propagated = left.closed.propagated }
 
-  pub proved-by : (refutation : Refutation) → RefutesFrom (without_witnesses t.basis.bank) (start_in t) (clauses_of t) (length (learned t.solver)) refutation → IsProvedBy setting start n refutation
+  pub proved-by : (refutation : Refutation) → RefutesFrom (without_witnesses t.basis.bank) (start_in t) (rows_in t.basis) (clauses_of t) (length (learned t.solver)) refutation → IsProvedBy setting start n refutation
   proved-by refutation refutes =
       let running = left.under_way.running in
       let by : IsProvedBy (setting_by t q) (start_in t) t.done refutation = (is-proved t q running t q refutation None None closes_here running.right refl (record { refutes = refutes; tree = tt }) until_here).0 in

@@ -1,10 +1,15 @@
+pub mod AlikeUses
 pub mod ContainsLaws
 pub mod EnoughLaws
+pub mod GivenUses
 pub mod LearningLaws
+pub mod OnceLaws
+pub mod OneTree
 pub mod OriginLaws
 pub mod PropagatedLaws
 pub mod RebuildUses
 pub mod RunLaws
 pub mod SmallUses
 pub mod UsedOrder
+pub mod TreeLines
 pub mod TreeUses

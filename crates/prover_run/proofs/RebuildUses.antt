@@ -29,13 +29,14 @@ use Rattle.literal_map.specs.Atoms.{bank_literal}
 use Rattle.literal_map.specs.Numbers.{UseByNumbers}
 use Rattle.literal_map.specs.declared.instance.Instance.{Instance}
 use Rattle.rebuild_spec.specs.Input.{literals_of, clause_in}
+use Rattle.rebuild_spec.specs.Given.{IsGiven}
 use Rattle.rebuild_spec.specs.Rebuilt.{IsRebuilt}
 use Rattle.rebuild_spec.specs.Trimmed.{IsFromSearch}
 use Rattle.rebuild_spec.specs.Used.{AreFew}
 use Rattle.search_spec.specs.Numbered as by_atoms
 use Rattle.search_spec.specs.Numbered.{AreApart}
 use Rattle.search_spec.specs.Unsatisfiable.{Clause}
-use Rattle.tableau_clauses.specs.Table.{Step, Table, the_clauses, ComesFromOrigin, EachComes, units_in, start_units}
+use Rattle.tableau_clauses.specs.Table.{Step, Table, the_clauses, the_instances, ComesFromOrigin, EachComes, units_in, start_units}
 use Rattle.tableau_clauses.specs.declared.origin.Origin.{Origin}
 use Rattle.tableau_clauses.specs.declared.origin.Origin.TheVariants.{Start, Instance as From}
 use Rattle.tableau_rules.specs.Uses.{use_of}
@@ -50,6 +51,7 @@ use Rattle.prover_state.proofs.NumberLaws.{literal_named}
 use Rattle.prover_run.specs.Learning.{HasLearned, AreRefutedWithin}
 use Rattle.prover_run.specs.Origin.{ComesFrom as ComesFromClauses, EachComesFrom, AreRefutedShortly}
 use Rattle.prover_run.proofs.LearningLaws.{propagates-from_reaches}
+use Rattle.prover_run.proofs.GivenUses.{well-numbered}
 use Rattle.prover_run.proofs.OriginLaws.{comes-from}
 
 -- what holds of all results holds of the learned ones
@@ -194,13 +196,17 @@ module _ (g : Basis) (good : IsBasis g) where
           record { learning = learning-named; counted = omega arith; reaches = over; propagates = propagates-from_reaches formulas learning-named over }
 
       -- the log of the solver, from which a refutation is rebuilt
-      unfoldable pub shortly-named : (refutation : Refutation) → EachComes t → results y.log ≡ learned y ++ [] ∷ [] → IsRebuilt (the_input g.bank g.lits t y.log g.witnesses) refutation → AreFew y.log refutation.lines → AreRefutedShortly formulas learning-named refutation
-      shortly-named refutation comes ends rebuilt few =
+      unfoldable pub shortly-named : (scope : Scope) (ls : List Literal) (refutation : Refutation) → EachComes t → All (IsInstanceOver g.bank g.lits (rows_in g)) (the_instances t) → IsGiven scope ls (the_input g.bank g.lits t y.log g.witnesses)
+          → results y.log ≡ learned y ++ [] ∷ [] → IsRebuilt (the_input g.bank g.lits t y.log g.witnesses) refutation → AreFew y.log refutation.lines → AreRefutedShortly scope ls (rows_in g) formulas learning-named refutation
+      shortly-named scope ls refutation comes instances given ends rebuilt few =
           let L : List (List SatLit) → Type 0 = λ cs. IsLogOver cs y.log in
           record {
             input = the_input g.bank g.lits t y.log g.witnesses;
             atoms = refl;
+            rows = refl;
             numbered = sources-clauses g.bank.terms g.lits t comes;
+            given = given;
+            instances = well-numbered g.bank g.lits t g.witnesses y.log comes instances;
             logged = subst L is sound.logged;
             ends = ends;
             rebuilt = rebuilt;

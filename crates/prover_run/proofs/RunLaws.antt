@@ -1,5 +1,5 @@
 -- Runs from their start to their end.
-use Rattle.std.specs.Prelude.{◌≡◌, ◌≤◌, ◌+◌, ◌^◌, ◌∷◌, ◌++◌, ℕ, zero, suc, Bool, true, false, List, [], map, filter, length, Some, slice_get, Contains, refl, Option, None}
+use Rattle.std.specs.Prelude.{◌≡◌, ◌≤◌, ◌^◌, ◌∷◌, ◌++◌, ℕ, zero, suc, Bool, true, false, List, [], map, filter, length, Some, slice_get, Contains, refl, Option, None}
 use Rattle.std.specs.List.{All}
 use Rattle.std.proofs.Common.{sym, ap, ap₂, subst, ◌∙◌, arith, inl, inr, cond}
 use Rattle.stt_core.specs.Typing.{Scope}
@@ -7,7 +7,7 @@ use Rattle.stt_core.specs.PlainProblem.{PlainProblem}
 use Rattle.stt_core.specs.Declarations.{scope_of}
 use Rattle.tableau_calculus.specs.Literals.{Literal}
 use Rattle.tableau_calculus.specs.Start.{start}
-use Rattle.tableau_calculus.specs.Witnesses.{Row, IsTableAfter}
+use Rattle.tableau_calculus.specs.Witnesses.{Row}
 use Rattle.tableau_calculus.specs.Accepted.{Within, EndsWithin, IsAccepted}
 use Rattle.tableau_calculus.specs.Rules.{PlainRule}
 use Rattle.tableau_calculus.specs.declared.rule_use.RuleUse.TheVariants.{Cut}
@@ -42,12 +42,15 @@ use Rattle.prover_search.specs.Internal.Answers.{StepCloses, IsEmpty, IsAtLimit,
 use Rattle.prover_run.specs.declared.ended.Ended.{Ended}
 use Rattle.prover_run.specs.declared.ended.Ended.TheVariants.{Proved, GaveUp, CommandLimit, ConflictLimit}
 use Rattle.prover_run.specs.Ended.{setting_for, IsSpent, EndsAs}
-use Rattle.prover_run.specs.Learning.{AreSpent}
-use Rattle.prover_run.specs.Origin.{ComesFromBy}
+use Rattle.prover_run.specs.Learning.{HasLearned, AreSpent}
+use Rattle.prover_run.specs.Origin.{ComesFromBy, AreRefutedShortly}
 use Rattle.prover_run.specs.Tree.{IsTreeAsked}
 use Rattle.prover_run.specs.Internal.Ends.{RefutesWithTree, EndsFrom}
-use Rattle.rebuild_spec.specs.Input.{Input}
+use Rattle.rebuild_spec.specs.Input.{Input, Sourced, start_unit, clause_by}
+use Rattle.rebuild_spec.specs.Given.{IsRightClause, IsGiven}
+use Rattle.search_spec.specs.Numbered.{literal_at}
 use Rattle.plain_tableau.specs.declared.stripped.Stripped.{Stripped}
+use Rattle.prover_run.proofs.GivenUses.{table_declared}
 use Rattle.prover_run.proofs.TreeUses.{of_tree}
 use Rattle.prover_run.proofs.RebuildUses.{learning-named}
 
@@ -68,7 +71,7 @@ module _ (t : Tables) (q : Queue Planned Delays) (r : IsRunning t q) (t2 : Table
   budget_kept right same = subst (λ n. length (learned t2.solver) ≤ n) (ap (λ (s : Setting). s.mode.conflicts) same) right.budget
 
   pub is-proved : (refutation : Refutation) (nodes : Option ℕ) (tree : Option Stripped) → StepCloses old new → IsRightState t2 q2 → setting_by t2 q2 ≡ setting_by t q
-      → RefutesWithTree (setting_by t q).scope (start_in t) (the_state t q).clauses (length (learned t2.solver)) refutation nodes tree
+      → RefutesWithTree (setting_by t q).scope (start_in t) (the_state t q).rows (the_state t q).clauses (length (learned t2.solver)) refutation nodes tree
       → GoesOnUntil (setting_by t q) (start_in t) t.done → EndsFrom (setting_by t q) (start_in t) nodes (Proved t2.done refutation tree)
   is-proved refutation nodes tree k right same whole until =
       let P : ℕ → Type 0 = λ n. EndsFrom (setting_by t q) (start_in t) nodes (Proved n refutation tree) in
@@ -212,6 +215,28 @@ comes_whole rule ls clauses l (inl h) =
       second_in = held_whole is_shallow_literal ls h.second h.second_in;
     })
 
+right_whole : (scope : Scope) (ls : List Literal) (input : Input) (c : Sourced) → IsRightClause scope (filter is_shallow_literal ls) input c → IsRightClause scope ls input c
+right_whole scope ls input (start_unit l) h = held_whole is_shallow_literal ls (literal_at input.atoms l) h
+right_whole scope ls input (clause_by c i) h = h
+
+given_whole : (scope : Scope) (ls : List Literal) (input : Input) → IsGiven scope (filter is_shallow_literal ls) input → IsGiven scope ls input
+given_whole scope ls input given = record { table = given.table; atoms = given.atoms; clauses = λ n c at. right_whole scope ls input c (given.clauses n c at) }
+
+unfoldable shortly_whole : (scope : Scope) (ls : List Literal) (rows : List Row) (clauses : List Clause) (learning : HasLearned clauses) (refutation : Refutation)
+    → AreRefutedShortly scope (filter is_shallow_literal ls) rows clauses learning refutation → AreRefutedShortly scope ls rows clauses learning refutation
+shortly_whole scope ls rows clauses learning refutation h = record {
+  input = h.input;
+  atoms = h.atoms;
+  rows = h.rows;
+  numbered = h.numbered;
+  given = given_whole scope ls h.input h.given;
+  instances = h.instances;
+  logged = h.logged;
+  ends = h.ends;
+  rebuilt = h.rebuilt;
+  few = h.few;
+}
+
 -- what comes of a tree, with a refutation that is accepted for the whole start
 tree_whole : (scope : Scope) (ls : List Literal) (input : Input) (nodes : Option ℕ) (tree : Option Stripped) → IsTreeAsked scope (filter is_shallow_literal ls) (filter is_shallow_literal ls) input nodes tree → IsTreeAsked scope ls (filter is_shallow_literal ls) input nodes tree
 tree_whole scope ls input None None h = tt
@@ -221,6 +246,7 @@ tree_whole scope ls input (Some n) (Some s) h = record {
   instances = h.instances;
   used = h.used;
   branch = h.branch;
+  numbered = h.numbered;
   begins = h.begins;
   comes = h.comes;
   accepted = of_tree (IsAccepted scope (filter is_shallow_literal ls)) (IsAccepted scope ls) (accepted_whole scope ls) s h.accepted;
@@ -233,6 +259,7 @@ tree_whole scope ls input (Some n) (Some s) h = record {
 -- what ends from the literals of a problem that aren't too deep, ends from the problem's start
 module _ (p : PlainProblem) (m : Mode) (setting : Setting) (ls : List Literal) (is_setting : setting ≡ setting_for p m) (is_start : ls ≡ filter is_shallow_literal (start p)) where
   ends_here : (nodes : Option ℕ) (e : Ended) → EndsFrom (setting_for p m) (filter is_shallow_literal (start p)) nodes e → EndsAs p m nodes e
+  unfolding shortly_whole
   ends_here nodes (Proved n refutation tree) (k, asked) = (
     record {
       proved = record { until = until_whole (setting_for p m) (start p) n k.proved.until; state = k.proved.state; comes_to = sym (after_shallow (setting_for p m) (start p) n) ∙ k.proved.comes_to; unsatisfiable = k.proved.unsatisfiable };
@@ -241,7 +268,7 @@ module _ (p : PlainProblem) (m : Mode) (setting : Setting) (ls : List Literal) (
       small = k.refutes.small;
       origin = λ l there. comes_whole l.rule (start p) k.proved.state.clauses l (k.refutes.origin l there);
       within = k.refutes.within;
-      shortly = k.refutes.shortly;
+      shortly = shortly_whole (scope_of p.declared) (start p) k.proved.state.rows k.proved.state.clauses k.refutes.within.learning refutation k.refutes.shortly;
     },
     tree_whole (scope_of p.declared) (start p) k.refutes.shortly.input nodes tree asked,
   )
@@ -263,10 +290,6 @@ module _ (p : PlainProblem) (m : Mode) (setting : Setting) (ls : List Literal) (
       ends_here nodes e (subst S is_setting (subst L is_start k))
 
 -- A REFUTATION OVER THE BANK
-
-table_declared : (b : Content) (earlier rows : List Row) → IsTableAfter (content_scope b) earlier rows → IsTableAfter (without_witnesses b) earlier rows
-table_declared b earlier [] h = tt
-table_declared b earlier (r ∷ rows) h = (h.0, h.1, table_declared b (earlier ++ r ∷ []) rows h.2)
 
 -- what is accepted over a bank is accepted over what it declares, its witnesses apart
 pub accepted-declared : (b : Content) (ls ks : List Literal) (refutation : Refutation) → ks ≡ ls → IsAccepted (content_scope b) ks refutation → IsAccepted (without_witnesses b) ls refutation

@@ -1,5 +1,5 @@
 -- A tree from the log of a run.
-use Rattle.std.specs.Prelude.{◌≡◌, ◌↔◌, ℕ, zero, suc, List, [], ◌∷◌, map, length, Some, option_map, unwrap_or, slice_get, Contains, refl}
+use Rattle.std.specs.Prelude.{◌≡◌, ◌↔◌, ◌++◌, if◌then◌else◌, Bool, true, false, ℕ, zero, suc, List, [], ◌∷◌, map, length, Some, option_map, unwrap_or, slice_get, Contains, refl}
 use Rattle.std.specs.List.{All}
 use Rattle.std.specs.List.Sorted.{IsStrictlyIncreasing}
 use Rattle.std.proofs.Common.{sym, ap, subst, ◌∙◌, arith}
@@ -12,11 +12,11 @@ use Rattle.tableau_calculus.specs.Start.{without_repeats}
 use Rattle.tableau_calculus.specs.declared.refutation.Refutation.{Refutation}
 use Rattle.tableau_calculus.proofs.ListLaws.{contains_cases, contains-first, contains-later}
 use Rattle.sat_base.specs.declared.literal.SatLit.{SatLit}
-use Rattle.sat_base.specs.Literal.{IsOver}
+use Rattle.sat_base.specs.Literal.{IsOver, holds}
 use Rattle.sat_log.specs.declared.log.LogEntry.{LogEntry}
 use Rattle.tableau_calculus.specs.Each.{Each}
 use Rattle.search_spec.specs.Numbered.{numbers, literal_at, IsNumber, AreApart}
-use Rattle.search_spec.proofs.NamingLaws.{added-mapped}
+use Rattle.search_spec.proofs.NamingLaws.{each-joined, added-mapped}
 use Rattle.search_spec.proofs.UnsatLaws.{numbers_stand}
 use Rattle.term_bank.specs.Terms.{term_at}
 use Rattle.tableau_clauses.specs.declared.origin.Origin.{Origin}
@@ -33,13 +33,13 @@ use Rattle.term_bank.specs.Content.{Content}
 use Rattle.prover_run.specs.Tree.{UsesInstance, AreUsedInstances}
 use Rattle.prover_run.proofs.UsedOrder.{from_list, increasing_at, one_number}
 
-contains_map : {A B : Type 0} (f : A → B) (xs : List A) (y : B) → Contains (map f xs) y → (x : A) × Contains xs x × (f x ≡ y)
+pub contains_map : {A B : Type 0} (f : A → B) (xs : List A) (y : B) → Contains (map f xs) y → (x : A) × Contains xs x × (f x ≡ y)
 contains_map f [] y h = absurd (omega (arith, h.1))
 contains_map f (x ∷ xs) y h =
     contains_cases ((z : _) × Contains (x ∷ xs) z × (f z ≡ y)) y (f x) (map f xs) h (λ same. (x, contains-first x xs, same))
     (λ later. let r = contains_map f xs y later in (r.0, contains-later r.0 x xs r.1, r.2))
 
-contains_mapped : {A B : Type 0} (f : A → B) (xs : List A) (x : A) → Contains xs x → Contains (map f xs) (f x)
+pub contains_mapped : {A B : Type 0} (f : A → B) (xs : List A) (x : A) → Contains xs x → Contains (map f xs) (f x)
 contains_mapped f [] x c = absurd (omega (arith, c.1))
 contains_mapped f (y ∷ xs) x c =
     contains_cases (Contains (map f (y ∷ xs)) (f x)) x y xs c (λ same. subst (λ z. Contains (map f (y ∷ xs)) z) (ap f same) (contains-first (f y) (map f xs)))
@@ -50,7 +50,7 @@ contains_at [] n x h = cc
 contains_at (y ∷ ys) zero x h = let same : y ≡ x = cc in subst (Contains (y ∷ ys)) same (contains-first y ys)
 contains_at (y ∷ ys) (suc n) x h = contains-later x y ys (contains_at ys n x h)
 
-map_twice : {A B C : Type 0} (g : B → C) (f : A → B) (xs : List A) → map g (map f xs) ≡ map (λ x. g (f x)) xs
+pub map_twice : {A B C : Type 0} (g : B → C) (f : A → B) (xs : List A) → map g (map f xs) ≡ map (λ x. g (f x)) xs
 map_twice g f [] = refl
 map_twice g f (x ∷ xs) = ap (λ ys. g (f x) ∷ ys) (map_twice g f xs)
 
@@ -63,6 +63,15 @@ pub of_tree : (P Q : Refutation → Type 0) → ((refutation : Refutation) → P
 of_tree P Q f (Whole refutation n) h = f refutation h
 of_tree P Q f (Open branch) h = tt
 of_tree P Q f (Over n) h = tt
+
+-- what is added of good literals to good ones is good
+pub added_each : (P : SatLit → Type 0) (b ls : List SatLit) → Each P b → Each P ls → Each P (added numbers b ls)
+added_each P b [] gb gl = gb
+added_each P b (l ∷ ls) gb gl = go (holds b l) (λ c gc. added_each P c ls gc gl.1)
+  where
+    go : (x : Bool) → ((c : List SatLit) → Each P c → Each P (added numbers c ls)) → Each P (added numbers (if x then b else b ++ l ∷ []) ls)
+    go true rest = rest b gb
+    go false rest = rest (b ++ l ∷ []) (each-joined P b (l ∷ []) gb (gl.0, tt))
 
 module _ (b : Content) (atoms : List ℕ) (t : Table) (witnesses : List ℕ) (log : List LogEntry) where
   abbrev pub instance_at : ℕ → Instance
@@ -117,11 +126,15 @@ module _ (b : Content) (atoms : List ℕ) (t : Table) (witnesses : List ℕ) (lo
   pub expanded_named : (used : List ℕ) → map expanded (map instance_at used) ≡ the_used b.terms atoms t used
   expanded_named used = map_twice expanded instance_at used
 
-  each_over : (ls : List SatLit) → IsOver (length atoms) ls → Each (IsNumber (atoms_at b.terms atoms)) ls
+  pub each_over : (ls : List SatLit) → IsOver (length atoms) ls → Each (IsNumber (atoms_at b.terms atoms)) ls
   each_over [] h = tt
   each_over (l ∷ ls) h =
       let here = h zero l (omega arith) in
       (omega (arith, here, length-map atoms (term_at b.terms)), each_over ls (λ n d below. h (suc n) d (omega (arith, below))))
+
+  -- the literals with which a tree begins have numbers
+  pub begin_numbered : All (λ s. s.1 ≡ Start → IsOver (length atoms) s.0) t.0 → Each (IsNumber (atoms_at b.terms atoms)) (start_branch t)
+  begin_numbered over = added_each (IsNumber (atoms_at b.terms atoms)) [] (start_units t.0) tt (each_over (start_units t.0) (units_over atoms t.0 over))
 
   -- a tree begins with the literals of the start units
   pub begins_named : AreApart (atoms_at b.terms atoms) → All (λ s. s.1 ≡ Start → IsOver (length atoms) s.0) t.0 → (begin : List Literal) → begin ≡ unit_literals (atoms_at b.terms atoms) t.0 → literals_of (atoms_at b.terms atoms) (start_branch t) ≡ without_repeats begin

@@ -79,7 +79,7 @@ increasing_at xs up p q x y less a b =
 
 -- lists in an order that no two elements have in both directions, nor one with itself, with the same elements
 module _ {A : Type 0} (Before : A → A → Type 0) where
-  abbrev AreOrdered : List A → Type 0
+  abbrev pub AreOrdered : List A → Type 0
   AreOrdered xs = (p q : ℕ) (i j : A) → p < q → slice_get xs p ≡ Some i → slice_get xs q ≡ Some j → Before i j
 
   contained_at : (xs : List A) (x : A) → Contains xs x → (n : ℕ) × (slice_get xs n ≡ Some x)

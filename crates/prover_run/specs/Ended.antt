@@ -5,6 +5,7 @@ use Rattle.stt_core.specs.Declarations.{scope_of}
 use Rattle.stt_core.specs.Typing.{Scope}
 use Rattle.tableau_calculus.specs.Literals.{Literal}
 use Rattle.tableau_calculus.specs.Start.{start}
+use Rattle.tableau_calculus.specs.Witnesses.{Row}
 use Rattle.tableau_calculus.specs.Accepted.{IsAccepted}
 use Rattle.tableau_calculus.specs.declared.refutation.Refutation.{Refutation}
 use Rattle.search_spec.specs.Shallow.{is_shallow_literal}
@@ -27,19 +28,19 @@ setting_for p m = record { scope = scope_of p.declared; mode = m }
 
 -- The refutation is accepted for the start and small enough for a text. Each of its lines is reached and comes from the clauses. These are
 -- refuted within so many conflicts, and from the log of what was learned the refutation is rebuilt.
-pub record RefutesFrom (scope : Scope) (start : List Literal) (clauses : List Clause) (conflicts : ℕ) (refutation : Refutation) : Type 0
-  where
-    pub accepted : IsAccepted scope start refutation
-    pub reached : IsEachReached refutation.lines
-    pub small : IsSmall refutation
-    pub origin : EachComesFrom start clauses refutation.lines
-    pub within : AreRefutedWithin conflicts clauses
-    pub shortly : AreRefutedShortly clauses within.learning refutation
+pub record RefutesFrom (scope : Scope) (start : List Literal) (rows : List Row) (clauses : List Clause) (conflicts : ℕ)
+    (refutation : Refutation) : Type 0 where
+  pub accepted : IsAccepted scope start refutation
+  pub reached : IsEachReached refutation.lines
+  pub small : IsSmall refutation
+  pub origin : EachComesFrom start clauses refutation.lines
+  pub within : AreRefutedWithin conflicts clauses
+  pub shortly : AreRefutedShortly scope start rows clauses within.learning refutation
 
 -- the run from literals is proved after so many commands, with a refutation
 pub record IsProvedBy (setting : Setting) (start : List Literal) (n : ℕ) (refutation : Refutation) : Type 0 where
   pub proved : IsProved setting start n
-  pub refutes : RefutesFrom setting.scope start proved.state.clauses setting.mode.conflicts refutation
+  pub refutes : RefutesFrom setting.scope start proved.state.rows proved.state.clauses setting.mode.conflicts refutation
 
 -- The run is proved after n commands, and the refutation is accepted for the start and small enough for a text. Each of its lines is
 -- reached from the last one and comes from the clauses of the state after these commands. These are refuted within the conflicts of the
@@ -51,7 +52,8 @@ pub record IsRefuted (p : PlainProblem) (m : Mode) (n : ℕ) (refutation : Refut
   pub small : IsSmall refutation
   pub origin : EachComesFrom (start p) proved.state.clauses refutation.lines
   pub within : AreRefutedWithin m.conflicts proved.state.clauses
-  pub shortly : AreRefutedShortly proved.state.clauses within.learning refutation
+  pub shortly :
+      AreRefutedShortly (scope_of p.declared) (start p) proved.state.rows proved.state.clauses within.learning refutation
 
 -- The run from literals goes on until some number of commands, and there the conflicts of the mode are spent.
 pub record IsSpent (setting : Setting) (literals : List Literal) (conflicts : ℕ) : Type 0 where

@@ -1,5 +1,5 @@
--- Laws of how runs end by their conflicts, and without them.
-use Rattle.std.specs.Prelude.{◌≡◌, ◌≢◌, ◌<◌, ◌≤◌, ℕ, List, [], Contains}
+-- Laws of how runs end.
+use Rattle.std.specs.Prelude.{◌≡◌, ◌≢◌, ◌<◌, ◌≤◌, ℕ, List, [], Option, Contains}
 use Rattle.stt_core.specs.PlainProblem.{PlainProblem}
 use Rattle.tableau_calculus.specs.Literals.{Literal}
 use Rattle.tableau_calculus.specs.Start.{start}
@@ -9,8 +9,10 @@ use Rattle.mode_file.specs.declared.Mode.{Mode}
 use Rattle.search_spec.specs.State.{Setting}
 use Rattle.search_spec.specs.Unsatisfiable.{Clause}
 use Rattle.prover_run.specs.Learning.{HasLearned, AreSpent, PropagatesToFalse, AreRefutedWithin, IsLearnedAmong, AreEnough}
+use Rattle.plain_tableau.specs.declared.stripped.Stripped.{Stripped}
 use Rattle.rebuild_spec.specs.Input.{Instance, Input}
-use Rattle.prover_run.specs.Ended.{setting_for, IsRefuted, IsSpent, HasEnoughConflicts}
+use Rattle.prover_run.specs.Ended.{setting_for, IsRefuted, IsSpent, HasEnoughConflicts, EndsAs}
+use Rattle.prover_run.specs.declared.ended.Ended.TheVariants.{Proved}
 use Rattle.prover_run.specs.Tree.{AreUsedInstances}
 
 -- conflicts for all clauses over the atoms are never spent
@@ -69,3 +71,12 @@ OneUsedList =
     → AreUsedInstances input instances
     → AreUsedInstances input others
     → instances ≡ others
+
+-- One tree belongs to a refutation: for one problem, mode and limit on the nodes, two runs that are proved after as many commands and by
+-- one refutation come to the same.
+abbrev pub OneTreeOfRefutation : Type 0
+OneTreeOfRefutation =
+    (p : PlainProblem) (m : Mode) (nodes : Option ℕ) (n : ℕ) (refutation : Refutation) (tree other : Option Stripped)
+    → EndsAs p m nodes (Proved n refutation tree)
+    → EndsAs p m nodes (Proved n refutation other)
+    → tree ≡ other

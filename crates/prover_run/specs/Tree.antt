@@ -5,8 +5,10 @@ use Rattle.tableau_calculus.specs.Literals.{Literal}
 use Rattle.tableau_calculus.specs.Start.{without_repeats}
 use Rattle.tableau_calculus.specs.Accepted.{IsAccepted}
 use Rattle.tableau_calculus.specs.CutFree.{HasNoCut}
+use Rattle.tableau_calculus.specs.Each.{Each}
 use Rattle.sat_base.specs.declared.literal.SatLit.{SatLit}
 use Rattle.refute_print.specs.Sizes.{IsSmall}
+use Rattle.search_spec.specs.Numbered.{IsNumber}
 use Rattle.rebuild_spec.specs.Trees.{at_clause}
 use Rattle.rebuild_spec.specs.Input.{Instance, clause_by, Input, literals_of}
 use Rattle.rebuild_spec.specs.Trimmed.{IsEachReached}
@@ -35,6 +37,7 @@ pub record IsTreeFor (scope : Scope) (start begin : List Literal) (input : Input
   pub instances : List Instance
   pub used : AreUsedInstances input instances
   pub branch : List SatLit
+  pub numbered : Each (IsNumber input.atoms) branch
   pub begins : literals_of input.atoms branch ≡ without_repeats begin
   pub comes : IsStripped input.atoms input.rows (map expanded instances) limit branch stripped
   pub accepted : OfTree (IsAccepted scope start) stripped

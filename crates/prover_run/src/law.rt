@@ -1,5 +1,5 @@
 //! Laws of the definitions.
-ghost use Rattle.prover_run.specs.Laws.{EnoughIsNeverSpent, LearnedIsNotEmpty, OneUsedList, PropagatesWithoutConflict, RunPropagatesWithoutConflict, RunWithEnoughIsNeverSpent, SpentEndsEarlier, SpentEndsNoLater, SpentIsNotRefuted};
+ghost use Rattle.prover_run.specs.Laws.{EnoughIsNeverSpent, LearnedIsNotEmpty, OneTreeOfRefutation, OneUsedList, PropagatesWithoutConflict, RunPropagatesWithoutConflict, RunWithEnoughIsNeverSpent, SpentEndsEarlier, SpentEndsNoLater, SpentIsNotRefuted};
 
 /// Conflicts that are enough for all clauses over the atoms are never spent. So no run ends by its conflicts where the mode has enough for
 /// the clauses of each of its states.
@@ -24,7 +24,9 @@ pub fn spent_is_not_refuted()
     ensures earlier { SpentEndsEarlier }
 {}
 
-/// A log uses one list of instances, so that one expansion belongs to it.
-pub fn one_used_list()
-    ensures { OneUsedList }
+/// The log of one input uses one list of instances. Where one refutation is rebuilt from the logs of two runs, these use the same
+/// instances, and what comes of the tree is the same.
+pub fn one_tree_of_refutation()
+    ensures used { OneUsedList }
+    ensures tree { OneTreeOfRefutation }
 {}

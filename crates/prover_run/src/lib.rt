@@ -9,6 +9,6 @@ mod tree;
 
 pub use delays::delay;
 pub use ended::Ended;
-pub use law::{enough_conflicts, no_conflicts, one_used_list, spent_is_not_refuted};
+pub use law::{enough_conflicts, no_conflicts, one_tree_of_refutation, spent_is_not_refuted};
 pub use running::{refutation_of, run};
 pub use tree::{tree_asked, tree_of};

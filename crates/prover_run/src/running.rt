@@ -9,7 +9,7 @@ ghost use Rattle.mode_file.specs.Given.{IsInRange};
 ghost use Rattle.search_spec.specs.Result.{GoesOnUntil};
 ghost use Rattle.type_bound.specs.Modest.{IsModestProblem};
 ghost use Rattle.prover_state.specs.Delays.{delay_by};
-ghost use Rattle.prover_state.specs.Internal.Standing.{without_witnesses, setting_by};
+ghost use Rattle.prover_state.specs.Internal.Standing.{without_witnesses, rows_in, setting_by};
 ghost use Rattle.prover_search.specs.Internal.Running.{start_in, IsUnderWay};
 ghost use Rattle.prover_run.specs.Ended.{RefutesFrom, EndsAs};
 ghost use Rattle.prover_run.specs.RunTables.{AreRunTables, clauses_of};
@@ -25,7 +25,7 @@ use prover_state::Tables;
 use refute_share::SharedRefutation;
 use std::alloc::{AllocError, Global};
 use stt_core::Problem;
-use tableau_rebuild::rebuild_shared;
+use tableau_rebuild::{rebuild_shared, tables_are_given};
 use term_bank::equal_ids_for_equal_terms;
 
 /// The refutation that is rebuilt from the tables of a run whose clauses are unsatisfiable.
@@ -40,6 +40,13 @@ fn refutation_by(alloc: Global, tables: &Tables) -> Result<SharedRefutation, All
     tables.basis.lits.atoms_differ();
     let log = tables.solver.log();
     let basis = &tables.basis;
+    tables_are_given(
+        &basis.bank,
+        &basis.lits,
+        &tables.steps,
+        log,
+        &basis.witnesses,
+    );
     let refutation = rebuild_shared(
         alloc,
         &basis.bank,
@@ -56,8 +63,8 @@ pub fn refutation_of(alloc: Global, tables: &Tables) -> Result<SharedRefutation,
     requires run { AreRunTables tables.now }
     requires ends { results tables.now.solver.log ≡ learned tables.now.solver ++ [] ∷ [] }
     requires propagated { ReachesFalse (tables.now.solver.clauses ++ learned tables.now.solver) [] }
-    ensures { IfOk result (RefutesFrom (without_witnesses tables.now.basis.bank) (start_in tables.now) (clauses_of tables.now)
-        (length (learned tables.now.solver))) }
+    ensures { IfOk result (RefutesFrom (without_witnesses tables.now.basis.bank) (start_in tables.now) (rows_in tables.now.basis)
+        (clauses_of tables.now) (length (learned tables.now.solver))) }
 {
     let refutation = refutation_by(alloc, tables)?;
     Ok(refutation)

@@ -2,6 +2,7 @@
 use Rattle.std.specs.Prelude.{◌≡◌, ◌+◌, ℕ, List, length, Option}
 use Rattle.stt_core.specs.Typing.{Scope}
 use Rattle.tableau_calculus.specs.Literals.{Literal}
+use Rattle.tableau_calculus.specs.Witnesses.{Row}
 use Rattle.tableau_calculus.specs.declared.refutation.Refutation.{Refutation}
 use Rattle.search_spec.specs.State.{Setting}
 use Rattle.search_spec.specs.Unsatisfiable.{Clause}
@@ -11,7 +12,7 @@ use Rattle.command_queue.specs.Queue.{Queue}
 use Rattle.prover_state.specs.declared.command.Planned.{Planned}
 use Rattle.prover_state.specs.declared.command.Delays.{Delays}
 use Rattle.prover_state.specs.declared.tables.Tables.{Tables}
-use Rattle.prover_state.specs.Internal.Standing.{without_witnesses, setting_by}
+use Rattle.prover_state.specs.Internal.Standing.{without_witnesses, rows_in, setting_by}
 use Rattle.prover_search.specs.Internal.Running.{start_in}
 use Rattle.plain_tableau.specs.declared.stripped.Stripped.{Stripped}
 use Rattle.prover_run.specs.RunTables.{clauses_of, input_of}
@@ -22,13 +23,15 @@ use Rattle.prover_run.specs.declared.ended.Ended.TheVariants.{Proved, GaveUp, Co
 
 -- a refutation that is rebuilt from the tables
 pub record RefutesByTables (t : Tables) (refutation : Refutation) : Type 0 where
-  pub refutes : RefutesFrom (without_witnesses t.basis.bank) (start_in t) (clauses_of t) (length (learned t.solver)) refutation
+  pub refutes :
+      RefutesFrom (without_witnesses t.basis.bank) (start_in t) (rows_in t.basis) (clauses_of t) (length (learned t.solver))
+      refutation
   pub input : refutes.shortly.input ≡ input_of t
 
 -- a refutation, and what comes of a tree from what it is rebuilt from
-pub record RefutesWithTree (scope : Scope) (start : List Literal) (clauses : List Clause) (conflicts : ℕ) (refutation : Refutation)
-    (nodes : Option ℕ) (stripped : Option Stripped) : Type 0 where
-  pub refutes : RefutesFrom scope start clauses conflicts refutation
+pub record RefutesWithTree (scope : Scope) (start : List Literal) (rows : List Row) (clauses : List Clause) (conflicts : ℕ)
+    (refutation : Refutation) (nodes : Option ℕ) (stripped : Option Stripped) : Type 0 where
+  pub refutes : RefutesFrom scope start rows clauses conflicts refutation
   pub tree : IsTreeAsked scope start start refutes.shortly.input nodes stripped
 
 abbrev pub EndsFrom : Setting → List Literal → Option ℕ → Ended → Type 0

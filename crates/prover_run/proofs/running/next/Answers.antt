@@ -3,10 +3,9 @@ use Rattle.std.specs.Prelude.{ℕ, List, length}
 use Rattle.stt_core.specs.Typing.{Scope}
 use Rattle.tableau_calculus.specs.Literals.{Literal}
 use Rattle.search_spec.specs.State.{State, Setting}
-use Rattle.search_spec.specs.Unsatisfiable.{Clause}
 use Rattle.search_spec.specs.Result.{IsExhausted, IsStopped}
 use Rattle.sat_core.specs.Solver.{learned}
-use Rattle.prover_state.specs.Internal.Standing.{setting_by, the_state}
+use Rattle.prover_state.specs.Internal.Standing.{setting_by, rows_in, the_state}
 use Rattle.prover_search.specs.Internal.Running.{start_in}
 use Rattle.prover_search.specs.Internal.Answers.{AnswersStep}
 use Rattle.prover_search.specs.declared.stepped.Stepped.{Stepped}
@@ -31,14 +30,14 @@ returns-in_ok-tree-in-Closed-clause-ended g c = λ until.
     let A : Stepped → Type 0 = λ s. AnswersStep (record { tables = t; plan = q }) (record { tables = u; plan = p }) s in
     let P : ℕ → Type 0 = λ k. EndsFrom (setting_by t q) (start_in t) nodes (Proved k refutation tree) in
     let I : Input → Type 0 = λ x. IsTreeAsked (setting_by u p).scope (start_in u) (start_in u) x nodes tree in
-    let R : Scope → List Literal → Type 0 = λ scope ls. RefutesWithTree scope ls (the_state t q).clauses n refutation nodes tree in
-    let F : List Clause → Type 0 = λ cs. RefutesWithTree (setting_by u p).scope (start_in u) cs n refutation nodes tree in
+    let R : Scope → List Literal → Type 0 = λ scope ls. RefutesWithTree scope ls (the_state t q).rows (the_state t q).clauses n refutation nodes tree in
+    let F : State → Type 0 = λ s. RefutesWithTree (setting_by u p).scope (start_in u) s.rows s.clauses n refutation nodes tree in
     let closed = subst A c.in-Closed.is c.in_ok-step.ensures.answers in
     let under_way = c.in_ok-step.ensures.under_way c.in_ok-step.ensures.ready in
     let by_tables = c.in_ok-refutation-in-Closed.ensures in
-    let here : RefutesWithTree (setting_by u p).scope (start_in u) (clauses_of u) n refutation nodes tree =
+    let here : RefutesWithTree (setting_by u p).scope (start_in u) (rows_in u.basis) (clauses_of u) n refutation nodes tree =
     record { refutes = by_tables.refutes; tree = subst I (sym by_tables.input) c.in_ok-tree-in-Closed.ensures } in
-    let over = subst F (ap (λ (s : State). s.clauses) closed.stays.state) here in
+    let over = subst F closed.stays.state here in
     let whole = subst₂ R (ap (λ (s : Setting). s.scope) c.in_ok-step.ensures.setting) c.in_ok-step.ensures.start over in
     subst P (sym c.commands.ensures) (is-proved t q c.requires.under_way.running u p refutation nodes tree closed under_way.running.right c.in_ok-step.ensures.setting whole until)
 

@@ -16,7 +16,7 @@ use Rattle.prover_search.specs.Internal.Running.{start_in}
 use Rattle.prover_run.proofs.RebuildUses.{instances-over, units-numbered, units-named, ends-empty}
 use Rattle.prover_run.proofs.RunLaws.{accepted-declared}
 use Rattle.prover_run.proofs.SmallUses.{input-small}
-use Rattle.prover_run.proofs.TreeUses.{instance_at, all_held, of_tree, used_named, expanded_named, begins_named}
+use Rattle.prover_run.proofs.TreeUses.{instance_at, all_held, of_tree, used_named, expanded_named, begin_numbered, begins_named}
 use Rattle.prover_run.proofs.tree.tree_of.Goals as goal
 
 pub used_may_be_used-requires-clause-instances : goal.used_may_be_used-requires-clause-instances
@@ -69,6 +69,7 @@ returns c =
       instances = map (instance_at b lits t.steps t.basis.witnesses t.solver.log) used;
       used = used_named b lits t.steps t.basis.witnesses t.solver.log c.clauses_come_from_origins.ensures c.clauses_stand_in_order.ensures used c.in_ok-instances.ensures.increasing by_log;
       branch = start_branch t.steps;
+      numbered = begin_numbered b lits t.steps t.basis.witnesses t.solver.log (units-numbered t.basis r.basis t.steps.0 r.clauses);
       begins = begins_named b lits t.steps t.basis.witnesses t.solver.log apart_here (units-numbered t.basis r.basis t.steps.0 r.clauses) (start_in t) (sym units);
       comes = subst U (sym (expanded_named b lits t.steps t.basis.witnesses t.solver.log used)) told.exactly;
       accepted = of_tree (IsAccepted (content_scope b) (unit_literals A t.steps.0)) (IsAccepted (without_witnesses b) (start_in t)) (λ refutation a. accepted-declared b (start_in t) (unit_literals A t.steps.0) refutation units a) s told.accepted;
